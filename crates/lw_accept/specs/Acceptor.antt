@@ -52,7 +52,7 @@ AreFewInputs names = IsNames names × (length names ≤ 63)
 abbrev pub question : List ℕ
 question = codes "?"
 
--- 1 to 63 names, none of them `?`, and an acceptor of 1 to 1,024 states over so many letters
+-- 1 to 63 names, none of them `?`, and an acceptor of 1 to 1,024 states over this many letters
 pub record IsNamedAcceptor (m : NamedAcceptor) : Type 0 where
   pub inputs : AreFewInputs m.inputs
   pub free : ¬ Contains m.inputs question

@@ -28,7 +28,7 @@ ViewsDiffer = (a : ℕ) (m n : Automaton) → IsAcceptor a m → IsAcceptor a n 
 abbrev pub AreOver : ℕ → List Answer → Type 0
 AreOver a ks = All (λ k. IsWord a k.word) ks
 
--- an acceptor whose machine gives the answers says as they tell
+-- an acceptor whose machine agrees with the answers says as they tell
 abbrev pub AnswersAreTold : Type 0
 AnswersAreTold = (a : ℕ) (m : Automaton) (ks : List Answer) → IsAcceptor a m → AreOver (a + 1) ks → Gives (viewed m) ks → SaysAsTold m (told ks)
 
@@ -42,7 +42,7 @@ pub record FixAcceptor (a k : ℕ) (m : Automaton) (ks : List Answer) : Type 0 w
 abbrev pub AcceptorsAreSure : Type 0
 AcceptorsAreSure = (a k : ℕ) (m : Automaton) (ks : List Answer) → IsAcceptor a m → AreOver (a + 1) ks → Gives (viewed m) ks → Sure (a + 1) (viewed m) ks k → FixAcceptor a k m ks
 
--- no acceptor of at most so many states has a machine that gives the answers
+-- no acceptor of at most this many states has a machine that agrees with the answers
 abbrev pub NoAcceptorGives : (a most : ℕ) → List Answer → Type 0
 NoAcceptorGives a most ks = (n : Automaton) → IsAcceptor a n → length n.targets ≤ most → ¬ Gives (viewed n) ks
 

@@ -172,7 +172,7 @@ fn check_counts(said: &Said) -> Result<(), AcceptorFault>
     Ok(())
 }
 
-/// The first row that hasn't so many targets.
+/// The first row that hasn't this many targets.
 fn first_ragged(rows: &[Vec<u16>], inputs: usize) -> Option<usize>
     ensures none { IfNone result (All (λ r. length r ≡ inputs) (map (λ r. r.items) rows.now)) }
     ensures some { IfSome result
@@ -186,7 +186,7 @@ fn first_ragged(rows: &[Vec<u16>], inputs: usize) -> Option<usize>
     None
 }
 
-/// The first target of a row that is none of so many states.
+/// The first target of a row that is none of this many states.
 fn first_in_row(row: &[u16], states: usize) -> Option<usize>
     ensures none { IfNone result (All (λ t. t < states) row.now) }
     ensures some { IfSome result (FailsFirst (λ t. t < states) row.now) }

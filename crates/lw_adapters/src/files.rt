@@ -1,5 +1,5 @@
 //! The files of the system as a call is handed them. They count their faults, and tell the calls on them and what the reads
-//! gave; what they hold is told to no contract.
+//! gave; no contract sees what they hold.
 ghost use Rattle.std.specs.Prelude.{◌≡◌, [], true, false};
 
 use crate::writing::write_file;

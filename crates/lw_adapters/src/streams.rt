@@ -43,7 +43,7 @@ fn read_some<S: Read>(stream: &mut S, buffer: &mut [u8]) -> io::Result<usize>
 }
 
 /// A stream that is written. Contracts see the bytes that its writes said they took; these are what was appended to the stream,
-/// where it told what it held when it was wrapped.
+/// where what it held was observed when it was wrapped.
 #[derive(Drop)]
 pub struct Stream<W: Write> {
     stream: W,
@@ -113,8 +113,8 @@ impl<W: Write> Sink for Stream<W> {
     }
 }
 
-/// A stream that is read. Contracts see the bytes that its reads gave; these are what the stream had, where it told what it had
-/// left when it was wrapped.
+/// A stream that is read. Contracts see the bytes that its reads gave; these are what the stream had, where what it had
+/// was observed when it was wrapped.
 #[derive(Drop)]
 pub struct Input<S: Read> {
     stream: S,

@@ -16,8 +16,9 @@ pub record KnownApart (h : Rows) (ks : List Answer) (u v : List ℕ) : Type 0 wh
 abbrev pub ApartWhereDifferent : Rows → List Answer → List ℕ → List ℕ → Type 0
 ApartWhereDifferent h ks u v = after h 0 u ≢ after h 0 v → KnownApart h ks u v
 
--- the answers cover a machine for k extra states: it is minimal and gives them; each least access word with at most k + 1
--- letters behind it is known, and known apart from each access word; and so are any two prefixes of k + 1 letters behind one
+-- the answers cover a machine for k extra states: it is minimal and agrees with them; each least access word with at
+-- most k + 1 letters behind it is known, and known apart from each access word; and so are any two prefixes of k + 1
+-- letters behind one
 pub record Covers (a : ℕ) (h : Rows) (ks : List Answer) (k : ℕ) : Type 0 where
   pub minimal : IsMinimal a h
   pub gives : Gives h ks

@@ -50,7 +50,7 @@ OneMissing = (a : ℕ) (h : Rows) (ks : List Answer) (k : ℕ) (u v : List ℕ) 
 abbrev pub MissingIsUncovered : Type 0
 MissingIsUncovered = (a : ℕ) (h : Rows) (ks : List Answer) (k : ℕ) (word : List ℕ) → IsMissing a h ks k word → ¬ Covers a h ks k
 
--- answers that a minimal machine gives cover it, or a word is missing
+-- answers that a minimal machine agrees with cover it, or a word is missing
 abbrev pub CoveredOrMissing : Type 0
 CoveredOrMissing = (a : ℕ) (h : Rows) (ks : List Answer) (k : ℕ) → IsMachine a h → IsMinimal a h → Gives h ks
     → Covers a h ks k ⊎ ((word : List ℕ) × IsMissing a h ks k word)

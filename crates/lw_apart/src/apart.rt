@@ -39,8 +39,8 @@ pub(crate) fn answers_behind(
     Ok(numbers)
 }
 
-/// Whether a front of some letters is known behind a word, on which the outputs from two states differ. Puts letters behind
-/// the word as it goes on.
+/// Whether a prefix of some letters is known behind a word, on which the outputs from two states differ. Puts letters
+/// behind the word as it goes on.
 fn parts_behind(
     h: &Mealy,
     cache: &Cache,

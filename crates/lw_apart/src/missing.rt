@@ -40,9 +40,10 @@ fn wanted(
     Ok(word)
 }
 
-/// The word that is missing so that the kept answers cover a minimal model which gives them, for `extra` states more, and none exactly
-/// where they do, whichever words they came from: the first in shortlex order that is to be known and isn't, or else the word that the
-/// first pair wants which is to be known apart (Dorofeeva, El-Fakih and Koufareva 2005). The suite of the W-method isn't to be too large.
+/// The word that is missing so that the recorded answers cover a minimal model which agrees with them, for `extra`
+/// states more, and none exactly where they do, whichever words they came from: the first in shortlex order that is to
+/// be known and isn't, or else the word that the first pair wants which is to be known apart (Dorofeeva, El-Fakih and
+/// Koufareva 2005). The suite of the W-method isn't to be too large.
 ///
 /// # Errors
 /// Only where memory runs out.

@@ -38,7 +38,7 @@ fn first_with_access(
     Ok(None)
 }
 
-/// The first open pair of a front with an access word.
+/// The first open pair of a prefix with an access word.
 fn first_of_fronts(
     alloc: Global,
     h: &Mealy,
@@ -71,7 +71,7 @@ pub(crate) fn with_first(word: &Word, letters: &Word, count: usize) -> Result<Wo
     Ok(both)
 }
 
-/// The first open pair of an access word with so many of some letters behind it and the same with more of them.
+/// The first open pair of an access word with this many of some letters behind it and the same with more of them.
 fn first_along_from(
     alloc: Global,
     h: &Mealy,

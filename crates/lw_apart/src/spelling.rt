@@ -13,7 +13,7 @@ use lw_separate::least_access;
 use lw_words::{NoMemory, Word};
 use std::alloc::Global;
 
-/// The fronts of a minimal machine whose suite isn't too large, for `extra` states more.
+/// The prefixes of the suite of a minimal machine, where that isn't too large, for `extra` states more.
 pub(crate) fn fronts_of(alloc: Global, h: &Mealy, extra: u8) -> Result<Fronts, NoMemory>
     requires minimal { IsMinimal h.now.inputs h.now.rows }
     requires few { extra ≤ 4 }
@@ -31,14 +31,14 @@ pub(crate) fn fronts_of(alloc: Global, h: &Mealy, extra: u8) -> Result<Fronts, N
     })
 }
 
-/// The number of fronts.
+/// The number of prefixes.
 pub(crate) fn front_count(fronts: &Fronts) -> u64
     ensures { result ≡ length (all_fronts fronts.now) }
 {
     fronts.access.len() as u64 * fronts.middles
 }
 
-/// Makes a word the front with this number.
+/// Makes a word the prefix with this number.
 pub(crate) fn spell_front(fronts: &Fronts, front: &mut Word, number: u64) -> Result<(), NoMemory>
     requires { number < length (all_fronts fronts.now) }
     ensures { OnOk result (front.new ≡ slice_index_or (all_fronts fronts.now) number []) }

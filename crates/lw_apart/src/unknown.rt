@@ -38,7 +38,7 @@ fn best_with(cache: &Cache, best: Option<Word>, word: &Word) -> Result<Option<Wo
     Ok(Some(first))
 }
 
-/// The first front in shortlex order that isn't known. Looks at each.
+/// The first prefix in shortlex order that isn't known. Looks at each.
 pub(crate) fn least_unknown(
     alloc: Global,
     cache: &Cache,

@@ -24,7 +24,8 @@ kept_from n (r ∷ rs) = kept_run n r ∷ kept_from (n + 1) rs
 abbrev pub words_in : List Run → List (List ℕ)
 words_in runs = map (λ r. r.word) runs
 
--- runs of these words in their order, and what is kept of them: of a machine where that is told, with outputs that have names
+-- runs of these words in their order, and what is kept of them: of a machine where that is observed, with outputs that
+-- have names
 pub record AreRunsOf (machine : Option Rows) (words names : List (List ℕ)) (runs : List Run) (kept : List KeptAnswer) : Type 0 where
   pub words_are : words_in runs ≡ words
   pub kept_is : kept ≡ kept_from 0 runs

@@ -23,7 +23,7 @@ use lw_wordlist::{WordStop, read_words};
 use lw_words::{Kept, Words};
 use std::alloc::Global;
 
-/// What asking comes to.
+/// The outcome of asking.
 fn came_outcome(came: Result<(), AskingStop>) -> Outcome
     ensures { result ≡ came_outcome came }
 {
@@ -33,7 +33,7 @@ fn came_outcome(came: Result<(), AskingStop>) -> Outcome
     }
 }
 
-/// What asking comes to that stopped so: a child is the one of instance 0.
+/// The outcome of asking that stopped so: a child is the one of instance 0.
 fn stop_outcome(stop: AskingStop) -> Outcome
     ensures { result ≡ stop_outcome stop }
 {
@@ -44,7 +44,7 @@ fn stop_outcome(stop: AskingStop) -> Outcome
     }
 }
 
-/// What texts that are no words come to.
+/// The outcome of texts that are no words.
 fn word_outcome(stop: WordStop) -> Outcome
     ensures { result ≡ word_outcome stop }
 {
@@ -54,7 +54,7 @@ fn word_outcome(stop: WordStop) -> Outcome
     }
 }
 
-/// What came of asking a system: the answers that are kept, and what it comes to.
+/// What came of asking a system: the answers that are kept, and the outcome.
 #[derive(Drop)]
 struct Told {
     kept: Kept,

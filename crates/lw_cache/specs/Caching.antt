@@ -1,4 +1,4 @@
--- What contracts see of a cache: its kept answers, its claims and its room.
+-- What contracts see of a cache: its recorded answers, its claims and its room.
 use Rattle.std.specs.Prelude.{◌≡◌, ◌≢◌, ℕ, ◌<◌, ◌==◌, not, List, [], length, filter, slice_index_or}
 use Rattle.lw_words.specs.Word.{IsPrefix}
 use Rattle.lw_words.specs.declared.kept.KeptAnswer.{KeptAnswer}
@@ -8,7 +8,8 @@ pub record Claim : Type 0 where
   pub number : ℕ
   pub word : List ℕ
 
--- the kept answers and the claims in order; and for how many more words, with how many letters together, there is room
+-- the recorded answers and the claims in order; and for how many more words, with how many letters together, there is
+-- room
 pub record Caching : Type 0 where
   pub kept : List KeptAnswer
   pub claims : List Claim

@@ -1,4 +1,5 @@
--- Answers that no one machine gives, and the answers that stay when, from the front on, those that clash are left out.
+-- Answers that no one machine agrees with, and the answers that stay when, from the first on, those that clash are left
+-- out.
 use Rattle.std.specs.Prelude.{◌≡◌, ◌≢◌, ℕ, zero, suc, ◌+◌, ◌<◌, ◌↔◌, List, ◌++◌, length, take, slice_index_or}
 use Rattle.std.specs.List.{AllPairs}
 use Rattle.lw_words.specs.Word.{Answer, answer_at}
@@ -40,6 +41,6 @@ ClearStays = (ks more : List Answer) (i : ℕ) → i < length ks → IsClear (ks
 abbrev pub AllAreClear : Type 0
 AllAreClear = (ks : List Answer) → NothingClashes ks → (i : ℕ) → i < length ks → IsClear ks i
 
--- no machine gives two answers that clash
+-- no machine agrees with two answers that clash
 abbrev pub GivenNeverClash : Type 0
 GivenNeverClash = (m : Rows) (ks : List Answer) → Gives m ks → NothingClashes ks

@@ -22,10 +22,10 @@ Apart ks u v = (suffix : List ℕ) × Separates ks suffix u v
 abbrev pub IsCrowd : List Answer → List (List ℕ) → Type 0
 IsCrowd ks words = AllPairs (Apart ks) words
 
--- more answers leave a crowd a crowd
+-- words that are pairwise apart stay so with more answers
 abbrev pub CrowdStays : Type 0
 CrowdStays = (ks more : List Answer) (words : List (List ℕ)) → IsCrowd ks words → IsCrowd (ks ++ more) words
 
--- a machine that gives the answers has a state for each word of a crowd
+-- a machine that agrees with the answers has a state for each of some words that are pairwise apart
 abbrev pub CrowdNeedsStates : Type 0
 CrowdNeedsStates = (a : ℕ) (m : Rows) (ks : List Answer) (words : List (List ℕ)) → IsMachine a m → AreAnswers a ks → Gives m ks → IsCrowd ks words → length words ≤ length m

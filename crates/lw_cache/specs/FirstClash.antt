@@ -18,8 +18,8 @@ pub record ClashesFirst (ks : List Answer) (k : Answer) (clash : Clash) : Type 0
   pub place : (i place : ℕ) → IsClear ks i → ClashAt (answer_at ks i) k place → clash.place ≤ place
   pub first : (i : ℕ) → IsClear ks i → IsPrefix (take (clash.place + 1) k.word) (answer_at ks i).word → clash.first ≤ i
 
--- the first two answers, in the order of a list, that no one machine gives: nothing clashes before the second of the two, and it
--- clashes with the first of those before it, at the first place
+-- the first two answers, in the order of a list, that no one machine agrees with: nothing clashes before the second of
+-- the two, and it clashes with the first of those before it, at the first place
 pub record IsFirstClash (ks : List Answer) (clash : Clash) : Type 0 where
   pub within : clash.second < length ks
   pub before : NothingClashes (take clash.second ks)
@@ -34,7 +34,7 @@ pub record ClashedWhenKept (kept : List KeptAnswer) (clash : Clash) : Type 0 whe
 abbrev pub AreClear : List KeptAnswer → ℕ → ℕ → Type 0
 AreClear kept first end = (i : ℕ) → first ≤ i → i < end → IsClear (answers_of kept) i
 
--- a clash of an answer that came behind so many, and the first of those that isn't clear
+-- a clash of an answer that came behind this many, and the first of those that isn't clear
 pub record IsNewClash (count : ℕ) (kept : List KeptAnswer) (clash : Clash) : Type 0 where
   pub new : count ≤ clash.second
   pub came : ClashedWhenKept kept clash

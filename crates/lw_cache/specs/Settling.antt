@@ -16,9 +16,9 @@ use Rattle.lw_cache.specs.declared.stops.GrowStop.{GrowStop}
 use Rattle.lw_cache.specs.declared.stops.GrowStop.TheVariants.{Ask, Crowd}
 
 -- the numbers of inputs and outputs; the names of the outputs, or None where there are none or a settling may bring more;
--- the kept answers; where the runs of the instances come from, by instance; why an instance stopped, or None where it didn't;
--- the refusal of the last settling, or None where that was answered Ok or there was none; whether one was ever refused; and
--- whether a settling asks exactly the words that have to be asked, each once
+-- the recorded answers; where the runs of the instances come from, by instance; why an instance stopped, or None where
+-- it didn't; the refusal of the last settling, or None where that was answered Ok or there was none; whether one was
+-- ever refused; and whether a settling asks exactly the words that have to be asked, each once
 pub record OracleState : Type 0 where
   pub inputs : ℕ
   pub outputs : ℕ
@@ -38,7 +38,7 @@ pub record IsSame (before now : OracleState) : Type 0 where
   pub origins : now.origins ≡ before.origins
   pub exact : now.exact ≡ before.exact
 
--- an answer of a told machine is the machine's
+-- an answer of an observed machine is the machine's
 abbrev pub IsOf : Option Rows → Answer → Type 0
 IsOf None k = Unit {0}
 IsOf (Some m) k = answer m k.word ≡ k.outs
@@ -47,8 +47,8 @@ IsOf (Some m) k = answer m k.word ≡ k.outs
 abbrev pub told_machine : List Origin → ℕ → Option Rows
 told_machine origins instance = option_and_then (λ o. o.machine) (slice_get origins instance)
 
--- each kept answer is to a word over the inputs, with as many outputs, each below their number; and it is the answer of
--- its instance's machine, where that is told
+-- each recorded answer is to a word over the inputs, with as many outputs, each below their number; and it is the
+-- answer of its instance's machine, where that is observed
 pub record KeepsAnswers (inputs outputs : ℕ) (origins : List Origin) (kept : List KeptAnswer) : Type 0 where
   pub answers : All (λ k. IsAnswer inputs (answer_of k)) kept
   pub outputs_below : All (λ k. IsWord outputs k.outs) kept
@@ -57,13 +57,13 @@ pub record KeepsAnswers (inputs outputs : ℕ) (origins : List Origin) (kept : L
 abbrev pub Keeps : OracleState → Type 0
 Keeps o = KeepsAnswers o.inputs o.outputs o.origins o.kept
 
--- the kept answers gain some at their end, each to a word of the batch
+-- the recorded answers gain some at their end, each to a word of the batch
 pub record GainsAnswers (batch : List (List ℕ)) (before now : List KeptAnswer) : Type 0 where
   pub gained : List KeptAnswer
   pub at_end : now ≡ before ++ gained
   pub of_batch : All (λ k. Contains batch k.word) gained
 
--- the kept answers gain some at their end, each to a word of this kind
+-- the recorded answers gain some at their end, each to a word of this kind
 pub record GainsOnly (Asked : List ℕ → Type 0) (before now : List KeptAnswer) : Type 0 where
   pub gained : List KeptAnswer
   pub at_end : now ≡ before ++ gained
@@ -144,8 +144,8 @@ grown_stop (Ok x) = None
 grown_stop (Err (Ask stop)) = Some stop
 grown_stop (Err (Crowd words)) = None
 
--- the cause of that stop: an instance stopped; or, where nothing clashed before, the first two of all kept answers that no one
--- machine gives
+-- the cause of that stop: an instance stopped; or, where nothing clashed before, the first two of all recorded answers
+-- that no one machine agrees with
 abbrev pub IsStopCause : (before now : OracleState) → Option AskStop → Type 0
 IsStopCause before now None = Unit {0}
 IsStopCause before now (Some (Sul instance stop)) = InstanceHasStopped now instance stop

@@ -1,4 +1,4 @@
--- How a word stands in a cache.
+-- The state of a word in a cache.
 use Rattle.std.specs.Prelude.{◌≡◌, ◌⊎◌, ◌↔◌, ℕ, ◌≤◌, List, [], length, Contains}
 use Rattle.lw_words.specs.Word.{Answer, AllDiffer}
 use Rattle.lw_cache.specs.Caching.{Claim, IsClaimedBy}
@@ -16,7 +16,7 @@ Stands ks cs w No = (¬ IsKnown ks w) × ((number : ℕ) → ¬ IsClaimedBy cs w
 abbrev pub IsNoted : List Answer → List Claim → List ℕ → Type 0
 IsNoted ks cs w = (¬ (w ≡ [])) × (IsKnown ks w ⊎ ((number : ℕ) × IsClaimedBy cs w number))
 
--- there are so many different words of that kind
+-- there are this many different words of that kind
 pub record CountsNoted (ks : List Answer) (cs : List Claim) (count : ℕ) : Type 0 where
   pub words : List (List ℕ)
   pub counted : length words ≡ count

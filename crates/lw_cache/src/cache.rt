@@ -1,4 +1,4 @@
-//! The cache: what was answered, what is being asked, and how any word stands.
+//! The cache: what was answered, what is being asked, and the state of any word.
 ghost use Rattle.std.specs.Prelude.{◌≡◌, ℕ, ◌+◌, ◌<◌, ◌≤◌, List, [], ◌∷◌, ◌++◌, length, IfOk, OnOk, OnErr, IfErr, MatchOption, IfNone, IfSome, IsOk, Err, vec_len, vec_capacity};
 ghost use Rattle.std.specs.List.{All};
 ghost use Rattle.lw_words.specs.Word.{answer_of, answers_of, IsWhole, IsWord};
@@ -25,13 +25,13 @@ use std::marker::Model;
 /// The greatest number of nodes, and of answers.
 const MOST: usize = NONE as usize;
 
-/// Kept answers, and claims on words that are being asked; each word stands in it as [`Known`] says.
-/// Contracts see the answers and the claims in order, and beside them the room: so many more words, with so many letters
-/// together, can be claimed and answered without memory.
+/// Recorded answers, and claims on words that are being asked; [`Known`] says the state of a word.
+/// Contracts see the answers and the claims in order, and beside them the room: this many more words, with this many
+/// letters together, can be claimed and answered without memory.
 ///
 /// A call takes time in proportion to its word, times the siblings that are passed at each letter, and where it ends a claim
 /// also to the number of claims. [`Cache::nodes`] and [`Cache::against`] look at each node once; the second goes up from some
-/// of them too, in all at most a step for each letter of the kept answers.
+/// of them too, in all at most a step for each letter of the recorded answers.
 #[derive(Drop)]
 pub struct Cache {
     nodes: Vec<Node>,
@@ -72,7 +72,7 @@ impl Cache {
         }
     }
 
-    /// How a word stands. Takes no memory.
+    /// The state of a word. Takes no memory.
     pub fn known(&self, w: &Word) -> Known
         ensures { Stands (answers_of self.now.kept) self.now.claims w.now result }
     {
@@ -114,7 +114,8 @@ impl Cache {
         Ok(Some(outs))
     }
 
-    /// Makes room for so many words with so many letters together. Nothing else changes, also where memory runs out.
+    /// Makes room for this many words with this many letters together. Nothing else changes, also where memory runs
+    /// out.
     pub fn reserve(&mut self, words: usize, letters: usize) -> Result<(), NoMemory>
         ensures kept { self.new.kept ≡ self.old.kept }
         ensures claims { self.new.claims ≡ self.old.claims }
@@ -277,7 +278,7 @@ impl Cache {
         clash_of(found, number)
     }
 
-    /// The kept answers.
+    /// The recorded answers.
     pub fn kept(&self) -> &Kept
         ensures value { result.now.answers ≡ self.now.kept }
         ensures whole { All IsWhole (answers_of self.now.kept) }
@@ -285,7 +286,7 @@ impl Cache {
         &self.kept
     }
 
-    /// The kept answers, taken out of the cache. Takes no memory.
+    /// The recorded answers, taken out of the cache. Takes no memory.
     pub fn into_kept(self) -> Kept
         ensures { result.answers ≡ self.kept }
     {

@@ -1,6 +1,6 @@
-//! How a word stands in a cache.
+//! The state of a word in a cache.
 
-/// How a word stands in a cache.
+/// The state of a word in a cache.
 #[derive(Clone, Copy, Debug, PartialEq, Eq)]
 pub enum Known {
     /// It is known: empty, or a prefix of a clear answer's word.

@@ -13,7 +13,7 @@ pub fn all_are_clear()
     ensures { AllAreClear }
 {}
 
-/// No machine gives two answers that clash.
+/// No machine agrees with two answers that clash.
 pub fn given_never_clash()
     ensures { GivenNeverClash }
 {}
@@ -28,7 +28,7 @@ pub fn reads_once()
     ensures { ReadsOnce }
 {}
 
-/// A machine that gives the answers has a state for each word of a crowd.
+/// A machine that agrees with the answers has a state for each of some words that are pairwise apart.
 pub fn crowd_needs_states()
     ensures { CrowdNeedsStates }
 {}
@@ -43,7 +43,7 @@ pub fn reads_stay()
     ensures { ReadsStay }
 {}
 
-/// More answers leave a crowd a crowd.
+/// Words that are pairwise apart stay so with more answers.
 pub fn crowd_stays()
     ensures { CrowdStays }
 {}

@@ -1,4 +1,5 @@
-//! What was answered and what is being asked: a cache of kept answers with claims, and the trait of what answers words.
+//! What was answered and what is being asked: a cache of recorded answers with claims, and the trait of what answers
+//! words.
 #![tactic(auto)]
 
 mod cache;

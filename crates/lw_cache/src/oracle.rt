@@ -30,7 +30,8 @@ pub trait Oracle {
     /// Makes the words of a batch known.
     ///
     /// # Errors
-    /// What it stopped by: a system's stop, a clash of kept answers, or out of memory. Some words of the batch may be known then.
+    /// What it stopped by: a system's stop, a clash of recorded answers, or out of memory. Some words of the batch may
+    /// be known then.
     fn settle(&mut self, batch: &[Word]) -> Result<(), AskStop>
         requires letters { All (IsWord (state self.old).inputs) batch.now }
         requires few { length batch.now < 2 ^ 32 }

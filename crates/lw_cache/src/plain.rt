@@ -1,4 +1,4 @@
-//! A plain, slow body that computes the definitions from the list of kept answers.
+//! A plain, slow body that computes the definitions from the list of recorded answers.
 ghost use Rattle.std.specs.Prelude.{◌≡◌, ◌↔◌, ℕ, ◌<◌, ◌≤◌, true, length, IfNone, IfSome, IfOk, false};
 ghost use Rattle.std.specs.List.{All};
 ghost use Rattle.lw_words.specs.Word.{IsPrefix, answer_at, answer_of, answers_of, IsWhole};

@@ -73,7 +73,8 @@ fn better(nodes: &[Node], lengths: &[u32], best: Option<u32>, at: u32, differs: 
     }
 }
 
-/// The node whose word is the first in shortlex order of those at which a machine's output differs from what is told there.
+/// The node whose word is the first in shortlex order of those at which a machine's output differs from the one that is
+/// known there.
 fn first_differing(alloc: Global, nodes: &[Node], m: &Mealy) -> Result<Option<u32>, NoMemory>
     requires trie { IsTrie (node_at nodes.now) (length nodes.now) }
     requires root { 0 < length nodes.now }
@@ -97,7 +98,7 @@ fn first_differing(alloc: Global, nodes: &[Node], m: &Mealy) -> Result<Option<u3
     Ok(best)
 }
 
-/// The first word in shortlex order of a node at which a machine's output differs from what is told there.
+/// The first word in shortlex order of a node at which a machine's output differs from the one that is known there.
 pub(crate) fn first_difference(
     alloc: Global,
     nodes: &[Node],

@@ -3,8 +3,8 @@ ghost use Rattle.std.specs.Prelude.{◌≡◌};
 
 use lw_words::{NoMemory, SulStop, Words};
 
-/// Two kept answers, by their numbers, that no one machine gives: up to and with the place their letters agree, and
-/// their outputs agree before it and differ at it.
+/// Two recorded answers, by their numbers, that no one machine agrees with: up to and with the place their letters
+/// agree, and their outputs agree before it and differ at it.
 #[derive(Clone, Copy, Debug, PartialEq, Eq)]
 pub struct Clash {
     pub first: usize,
@@ -48,7 +48,7 @@ impl From<Clash> for KeepStop {
 pub enum AskStop {
     /// The system of this instance stopped.
     Sul { instance: u32, stop: SulStop },
-    /// Two kept answers clash.
+    /// Two recorded answers clash.
     Clash(Clash),
     /// Out of memory.
     NoMemory,

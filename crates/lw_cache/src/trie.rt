@@ -23,7 +23,7 @@ fn child(nodes: &[Node], parent: u32, letter: u16) -> u32
     0
 }
 
-/// The node of the longest front of a word that has one, and the length of that front.
+/// The node of the longest prefix of a word that has one, and the length of that prefix.
 pub(crate) fn reach(nodes: &[Node], letters: &[u16]) -> (u32, usize)
     requires trie { IsTrie (node_at nodes.now) (length nodes.now) }
     requires root { 0 < length nodes.now }

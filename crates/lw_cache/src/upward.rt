@@ -26,7 +26,7 @@ pub(crate) fn put_length(nodes: &[Node], lengths: &mut Vec<u32>) -> Result<(), N
     Ok(())
 }
 
-/// How two nodes' words of one length stand in shortlex order. Goes up from both to where they part.
+/// How two nodes' words of one length compare in shortlex order. Goes up from both to where they part.
 fn compare_same_length(nodes: &[Node], one: u32, other: u32) -> Ordering
     requires trie { IsTrie (node_at nodes.now) (length nodes.now) }
     requires one { one < length nodes.now }
@@ -49,7 +49,7 @@ fn compare_same_length(nodes: &[Node], one: u32, other: u32) -> Ordering
     order
 }
 
-/// How two nodes' words stand in shortlex order.
+/// How two nodes' words compare in shortlex order.
 fn compare(nodes: &[Node], lengths: &[u32], one: u32, other: u32) -> Ordering
     requires trie { IsTrie (node_at nodes.now) (length nodes.now) }
     requires lengths { AreLengths (node_at nodes.now) (length lengths.now) lengths.now }

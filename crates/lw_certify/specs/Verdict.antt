@@ -1,4 +1,4 @@
--- What a model and kept answers come to: the first of six that applies.
+-- The verdict on a model and recorded answers: the first of six that applies.
 use Rattle.std.specs.Prelude.{◌≡◌, ℕ, ◌<◌, ◌≤◌, List, length, slice_index_or, []}
 use Rattle.std.specs.List.{All}
 use Rattle.lw_words.specs.Word.{Answer, answer_at, IsWhole, IsWord}
@@ -27,7 +27,7 @@ pub record IsFirstUnreached (a : ℕ) (h : Rows) (q : ℕ) : Type 0 where
 abbrev pub AllReached : ℕ → Rows → Type 0
 AllReached a h = (q : ℕ) → q < length h → Reached a h q
 
--- the machine doesn't give this answer, from this place on, and gives those before it
+-- the machine disagrees with this answer, from this place on, and agrees with those before it
 pub record DiffersAt (h : Rows) (ks : List Answer) (number place : ℕ) : Type 0 where
   pub first : FailsFirst (λ k. answer h k.word ≡ k.outs) ks number
   pub here : DifferFirst (answer h (answer_at ks number).word) (answer_at ks number).outs place
@@ -91,7 +91,7 @@ abbrev pub EnoughCovers : Type 0
 EnoughCovers = (method : Method) (a : ℕ) (h : Rows) (ks : List Answer) (k : ℕ) → IsMachine a h → IsMinimal a h → Gives h ks
     → AreEnoughBy method a h ks k → Covers a h ks k
 
--- answers that the machine gives, and that make a suite of it known, are enough by the method that made the suite
+-- answers that the machine agrees with, and that make a suite of it known, are enough by the method that made the suite
 abbrev pub SuiteIsEnough : Type 0
 SuiteIsEnough = (method : Method) (a : ℕ) (h : Rows) (ks : List Answer) (k : ℕ) (suite : List (List ℕ)) → IsMachine a h → IsMinimal a h → Gives h ks
     → IsSuiteBy method a h k suite → All (IsKnown ks) suite → AreEnoughBy method a h ks k

@@ -1,4 +1,4 @@
--- Worked by hand: answers that a machine gives, and answers with a gap.
+-- Worked by hand: answers that a machine agrees with, and answers with a gap.
 use Rattle.std.specs.Prelude.{List, [], ◌∷◌}
 use Rattle.lw_words.specs.Word.{Answer}
 use Rattle.lw_mealy.specs.Machine.{IsMachine, Gives, Sure}
@@ -14,9 +14,9 @@ two_letters = record { word = 0 ∷ 0 ∷ []; outs = 0 ∷ 0 ∷ [] } ∷ []
 
 pub record AsWorked : Type 0 where
   pub machine : IsMachine 1 counter_of_three
-  -- a machine gives the answers, so what is sure of them is said of at least that machine
+  -- a machine agrees with the answers, so what is sure of them is said of at least that machine
   pub given : Gives counter_of_three seven_letters
   -- and they fix the counter among all machines of at most five states
   pub fixed : Sure 1 counter_of_three seven_letters 2
-  -- the machine of one state gives the two letters too, and the counter is a machine of two states more
+  -- the machine of one state agrees with the two letters too, and the counter is a machine of two states more
   pub gap : ¬ Sure 1 one two_letters 2

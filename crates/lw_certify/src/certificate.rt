@@ -1,4 +1,4 @@
-//! The verdict on a model and kept answers.
+//! The verdict on a model and recorded answers.
 ghost use Rattle.std.specs.Prelude.{◌≡◌, ℕ, ◌≤◌, length, map, IfOk, OnOk, IfNone, IfSome, Ok};
 ghost use Rattle.std.specs.List.{All};
 ghost use Rattle.lw_words.specs.Word.{answers_of, IsWhole, IsWord};
@@ -47,7 +47,7 @@ fn find_access(alloc: Global, h: &Mealy) -> Result<Access, NoMemory>
     Ok(Access::Words(words))
 }
 
-/// The number of the first answer that a machine doesn't give, and its first different place.
+/// The number of the first answer that a machine disagrees with, and the first place at which it does.
 fn first_difference(h: &Mealy, kept: &Kept) -> Option<(usize, usize)>
     requires letters { All (λ k. IsWord h.now.inputs k.word) (answers_of kept.now.answers) }
     requires whole { All IsWhole (answers_of kept.now.answers) }
@@ -84,7 +84,8 @@ fn judge<S: Chunks>(alloc: Global, cache: &Cache, suite: &mut S) -> Result<Verdi
     }
 }
 
-/// The verdict by the H-method on a minimal model that gives the kept answers: whether they cover it. Looks at each pair of words.
+/// The verdict by the H-method on a minimal model that agrees with the recorded answers: whether they cover it. Looks
+/// at each pair of words.
 fn judge_pairs(alloc: Global, h: &Mealy, cache: &Cache, extra: u8) -> Result<Verdict, NoMemory>
     requires few { extra ≤ 4 }
     requires letters { All (λ k. IsWord h.now.inputs k.word) (answers_of cache.now.kept) }
@@ -100,8 +101,8 @@ fn judge_pairs(alloc: Global, h: &Mealy, cache: &Cache, extra: u8) -> Result<Ver
     }
 }
 
-/// The same, where a suite of the H-method is at hand: where all of its words are known, the kept answers cover the model, and no pair is
-/// looked at.
+/// The same, where a suite of the H-method is at hand: where all of its words are known, the recorded answers cover the
+/// model, and no pair is looked at.
 fn judge_apart<S: Chunks>(
     alloc: Global,
     h: &Mealy,
@@ -125,7 +126,7 @@ fn judge_apart<S: Chunks>(
     judge_pairs(alloc, h, cache, extra)
 }
 
-/// The verdict by a method on a minimal model that gives the kept answers: whether they are enough.
+/// The verdict by a method on a minimal model that agrees with the recorded answers: whether they are enough.
 fn certify_suite(
     alloc: Global,
     h: &Mealy,
@@ -158,14 +159,15 @@ fn certify_suite(
     }
 }
 
-/// The verdict on a model and the kept answers of a cache, for `extra` states more, with suites that are made so: the first
-/// that applies of an unreached state, two states that agree on all words, an answer that the model doesn't give, a suite that
-/// is too large, a word that is missing, and `Sure`. By the W-method and by the Wp-method the missing word is the first of the suite
-/// that isn't known (Vasilevskii 1973, Chow 1978, Fujiwara and others 1991). By the H-method it is `Sure` where the answers cover the
-/// model, whichever words they came from; else that word is missing which is first to be known, or which the first pair wants that
-/// is to be known apart (Dorofeeva, El-Fakih and Koufareva 2005): where an H-suite's words aren't all known, each such pair is looked at
-/// by itself, among all answers. One chunk of a suite is held at a time; by the W- and the Wp-method the access words, the first alike
-/// pair and the separating words are found once.
+/// The verdict on a model and the recorded answers of a cache, for `extra` states more, with suites that are made so:
+/// the first that applies of an unreached state, two states that agree on all words, an answer that the model disagrees
+/// with, a suite that is too large, a word that is missing, and `Sure`. By the W-method and by the Wp-method the
+/// missing word is the first of the suite that isn't known (Vasilevskii 1973, Chow 1978, Fujiwara and others 1991). By
+/// the H-method it is `Sure` where the answers cover the model, whichever words they came from; else that word is
+/// missing which is first to be known, or which the first pair wants that is to be known apart (Dorofeeva, El-Fakih and
+/// Koufareva 2005): where an H-suite's words aren't all known, each such pair is looked at by itself, among all
+/// answers. One chunk of a suite is held at a time; by the W- and the Wp-method the access words, the first alike pair
+/// and the separating words are found once.
 ///
 /// # Errors
 /// Only where memory runs out.

@@ -27,7 +27,8 @@ pub fn sure_is_sure()
     ensures { SureIsSure }
 {}
 
-/// What `Sure` says isn't empty: it holds of the answers of a worked case, which a machine gives, and two letters leave a gap.
+/// What `Sure` says isn't empty: it holds of the answers of a worked case, which a machine agrees with, and two letters
+/// leave a gap.
 pub fn sure_is_not_vacuous()
     ensures { AsWorked }
 {}

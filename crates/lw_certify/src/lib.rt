@@ -1,4 +1,4 @@
-//! The final certificate: whether kept answers fix a model among all machines of not many more states.
+//! The final certificate: whether recorded answers fix a model among all machines of not many more states.
 #![tactic(auto)]
 
 mod certificate;

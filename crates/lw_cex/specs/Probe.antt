@@ -15,7 +15,7 @@ probe m access w i = word_at access (after m 0 (take i w)) ++ drop i w
 abbrev pub IsProbe : Rows → List (List ℕ) → List ℕ → List ℕ → Type 0
 IsProbe m access w v = (i : ℕ) × (0 < i) × (i < length w) × (v ≡ probe m access w i)
 
--- the kept answers gain some at their end, each to a probe of the word
+-- the recorded answers gain some at their end, each to a probe of the word
 pub record AsksProbes (m : Rows) (access : List (List ℕ)) (w : List ℕ) (before now : List KeptAnswer) : Type 0 where
   pub gained : List KeptAnswer
   pub at_end : now ≡ before ++ gained

@@ -25,13 +25,13 @@ pub record IsCheckRun (aim : Goal) (method : Method) (model answers : List ℕ) 
   pub untouched : files_now.holds ≡ files_before.holds
   pub ended : EndsUnread aim model answers files_before files_now extra out_before out_now err_before err_now end.outcome end.kept.answers end.outputs ⊎
       EndsPairRead aim method model answers files_before files_now extra out_before out_now err_before err_now end.outcome end.kept.answers end.outputs
-  -- where both files are told, the outcome is their one decision, but that memory, a file or a stream may fail
+  -- where both files are observed, the outcome is their one decision, but that memory, a file or a stream may fail
   pub exact :
       (m : Machine) (a : Answers) (decision : Outcome)
       → TellsFile (IsModelFile aim) files_before.holds model m
       → TellsFile IsAnswersFile files_before.holds answers a
       → IsDecision method (pair_of m a) extra decision
       → DecidesAs decision end.outcome
-  -- a yes implies that the answers fix the model, which has so many states
+  -- a yes implies that the answers fix the model, which has this many states
   pub sure : (states : ℕ) → end.outcome ≡ Yes states → (pair : Pair) ×
       ReadsPair aim model answers files_before files_now pair × IsFixed pair extra × (states ≡ length pair.mealy.rows)

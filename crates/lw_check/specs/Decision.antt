@@ -1,4 +1,4 @@
--- What a model and answers with their names come to.
+-- The outcome of a model and answers with their names.
 use Rattle.std.specs.Prelude.{◌≡◌, ℕ, List, length}
 use Rattle.lw_words.specs.Word.{AreAnswers, answers_of}
 use Rattle.lw_words.specs.declared.kept.KeptAnswer.{KeptAnswer}
@@ -30,8 +30,8 @@ pair_of m a = record { inputs = m.inputs; outputs = m.outputs; mealy = m.mealy; 
 abbrev pub SameNames : Pair → Type 0
 SameNames p = (p.answer_inputs ≡ p.inputs) × (p.answer_outputs ≡ p.outputs)
 
--- the answers fix the model: the names are the same, it is minimal and gives them, and every machine that gives them and has at
--- most so many states more equals it on all words
+-- the answers fix the model: the names are the same, it is minimal and agrees with them, and every machine that agrees
+-- with them and has at most this many states more equals it on all words
 pub record IsFixed (p : Pair) (extra : ℕ) : Type 0 where
   pub names : SameNames p
   pub minimal : IsMinimal p.mealy.inputs p.mealy.rows
@@ -48,7 +48,7 @@ IsNo (verdict.TooLarge size) = ⊥
 IsNo verdict.Sure = ⊥
 IsNo _ = Unit {0}
 
--- what the pair comes to: the first that applies of other names, two answers that clash, and the verdict
+-- the outcome of the pair: the first that applies of other names, two answers that clash, and the verdict
 abbrev pub IsDecision : Method → Pair → ℕ → Outcome → Type 0
 IsDecision method p extra (Alphabets role) = (role ≡ Answers) × (¬ SameNames p)
 IsDecision method p extra (Nondeterministic clash) = SameNames p × IsFirstClash (answers_of p.kept) clash
@@ -57,11 +57,11 @@ IsDecision method p extra (No v) = HasVerdict method p extra v × IsNo v
 IsDecision method p extra (SuiteTooLarge states number) = HasVerdict method p extra (verdict.TooLarge number) × (states ≡ length p.mealy.rows)
 IsDecision method p extra _ = ⊥
 
--- a pair comes to one outcome at most, by each method
+-- a pair has one outcome at most, by each method
 abbrev pub OneDecision : Type 0
 OneDecision = (method : Method) (p : Pair) (extra : ℕ) (one two : Outcome) → IsDecision method p extra one → IsDecision method p extra two → one ≡ two
 
--- a machine and answers over the letters that they name come to an outcome
+-- a machine and answers over the letters that they name have an outcome
 abbrev pub SomeDecision : Type 0
 SomeDecision = (method : Method) (p : Pair) (extra : ℕ) → IsMachine p.mealy.inputs p.mealy.rows
     → AreAnswers (length p.answer_inputs) (answers_of p.kept)

@@ -27,7 +27,7 @@ pub record EndsUnread (aim : Goal) (model answers : List ℕ) (before now : File
       TakesAll (text_of [] [] [] extra outcome) err.taken err_now.taken
   pub said_part : TakesSome (text_of [] [] [] extra outcome) err.taken err_now.taken
 
--- what the pair comes to by the method; or memory ran out, or a stream refused a yes or a no
+-- the outcome of the pair by the method; or memory ran out, or a stream refused a yes or a no
 abbrev pub ComesTo : Method → Pair → ℕ → SinkState → SinkState → Outcome → Type 0
 ComesTo method pair extra out out_now outcome =
     IsDecision method pair extra outcome
@@ -53,6 +53,6 @@ pub record EndsPairRead (aim : Goal) (method : Method) (model answers : List ℕ
   pub said_part : ¬ IsYesOrNo outcome → TakesSome
       (text_of pair.inputs pair.outputs pair.kept extra outcome) err.taken err_now.taken
 
--- where files are told, the outcome is their decision, or a fault or memory came between
+-- where files are observed, the outcome is their decision, or a fault or memory came between
 abbrev pub DecidesAs : Outcome → Outcome → Type 0
 DecidesAs decision outcome = (outcome ≡ decision) ⊎ ((outcome ≡ NoMemory) ⊎ ((outcome ≡ SinkFault) ⊎ ((role : Role) × (outcome ≡ FileFault role))))

@@ -29,7 +29,7 @@ use lw_report::{End, UNSAID, refuse};
 use lw_words::Kept;
 use std::alloc::Global;
 
-/// Decides on a model and answers, and writes out what they come to.
+/// Decides on a model and answers, and writes out the outcome.
 fn finish<O: Sink, E: Sink>(
     alloc: Global,
     machine: Machine,
@@ -77,9 +77,9 @@ fn finish<O: Sink, E: Sink>(
 }
 
 /// `check (MODEL | --acceptor FILE) ANSWERS [--extra K] [--suite w|wp|h]`: whether the answers of a file fix the model of a file
-/// among all machines of at most so many states more, by that method. The model is a machine, or the machine that is asked in the
-/// place of an acceptor. Reads the model file, then the answers file; puts a yes or a no to `out`, and the text of every other
-/// outcome to `err`.
+/// among all machines of at most this many states more, by that method. The model is a machine, or the machine that is
+/// asked in place of an acceptor. Reads the model file, then the answers file; puts a yes or a no to `out`, and the
+/// text of every other outcome to `err`.
 pub fn check<F: Files, O: Sink, E: Sink>(
     alloc: Global,
     arguments: &CheckArguments,

@@ -1,4 +1,4 @@
-//! What a model and answers come to.
+//! The outcome of a model and answers.
 ghost use Rattle.std.specs.Prelude.{◌≡◌, ◌≤◌, ◌⊎◌, true, false};
 ghost use Rattle.std.specs.List.{All};
 ghost use Rattle.lw_words.specs.Word.{answers_of, IsWord};
@@ -17,14 +17,14 @@ use lw_prior::{Prior, fill};
 use lw_report::{Outcome, Role};
 use std::alloc::Global;
 
-/// What a model and answers come to, and the names of their outputs, where they share them.
+/// The outcome of a model and answers, and the names of their outputs, where they share them.
 #[derive(Drop)]
 pub(crate) struct Decided {
     pub(crate) outcome: Outcome,
     pub(crate) outputs: Option<OutNames>,
 }
 
-/// The outcome of a verdict on a model of so many states.
+/// The outcome of a verdict on a model of this many states.
 fn verdict_outcome(states: u16, verdict: Verdict) -> Outcome
     ensures { result ≡ outcome_of states verdict }
 {
@@ -82,7 +82,7 @@ fn outcome_of_filled(
     }
 }
 
-/// What a model and answers of the same names come to.
+/// The outcome of a model and answers of the same names.
 fn decide_alike(
     alloc: Global,
     machine: &Machine,
@@ -101,7 +101,7 @@ fn decide_alike(
     }
 }
 
-/// What a model and answers come to, and the names of their outputs.
+/// The outcome of a model and answers, and the names of their outputs.
 pub(crate) fn decide(
     alloc: Global,
     machine: &Machine,

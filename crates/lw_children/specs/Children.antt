@@ -38,7 +38,7 @@ IsCausedBy outputs workers before now links kept (learn.Ask ask.NoMemory) = Unit
 IsCausedBy outputs workers before now links kept (learn.Crowd words) = Unit {0}
 IsCausedBy outputs workers before now links kept (learn.TooLarge model number) = Unit {0}
 
--- nothing is wrong with a link: it neither failed nor ended, its transcript is told, and nothing in it is refused
+-- nothing is wrong with a link: it neither failed nor ended, its transcript is observed, and nothing in it is refused
 pub record IsSound (outputs : Option (List (List ℕ))) (link : LinkState) : Type 0 where
   pub faults : ¬ CountedFault 0 link.faults
   pub ends : ¬ CountedFault 0 link.ends
@@ -51,7 +51,7 @@ pub record IsUncounted (link : LinkState) : Type 0 where
   pub faults : ¬ CountedFault 0 link.faults
   pub ends : ¬ CountedFault 0 link.ends
 
--- one of so many instances said a bad line
+-- one of this many instances said a bad line
 abbrev pub SaysBadLine : ℕ → Result Learned LearnStop → Type 0
 SaysBadLine workers (Ok l) = ⊥
 SaysBadLine workers (Err (learn.Ask (ask.Sul i Failed))) = ⊥
@@ -67,7 +67,7 @@ abbrev pub LeavesNothing : (letters : List (List ℕ)) (outputs : Option (List (
 LeavesNothing letters outputs names since links = (i : ℕ) (d : LinkState) → i < length links → IfTold (KeepsWhole letters outputs names i since) (slice_index_or links i d).transcript
 
 -- a learning over children with letters and perhaps outputs of these names, that began with prior answers; the names are those of
--- the kept answers' outputs
+-- the recorded answers' outputs
 pub record IsOfChildren (kind : Kind) (words letters : List (List ℕ)) (outputs : Option (List (List ℕ))) (workers k most : ℕ) (prior : List KeptAnswer) (before now : SpawnerState) (learned : Result Learned LearnStop) (kept : List KeptAnswer) (names : List (List ℕ)) : Type 0 where
   -- the children: started in order, and all retired in that order
   pub links : List LinkState
@@ -84,17 +84,18 @@ pub record IsOfChildren (kind : Kind) (words letters : List (List ℕ)) (outputs
       (answers_of kept) l.model l.learner)
   pub stops : IfErr learned (StopsAs (length letters) (count_of outputs) k most (answers_of kept))
   pub causes : IfErr learned (IsCausedBy outputs workers before now links kept)
-  -- where nothing outside was wrong and the limits hold for some machine that gives the answers, a model comes, or memory runs out
+  -- where nothing outside was wrong and the limits hold for some machine that agrees with the answers, a model comes,
+  -- or memory runs out
   pub reached : (m : Rows) → IsWithin (length letters) k most m → Gives m (answers_of kept) →
       ¬ CountedFault before.faults now.faults → All (IsSound outputs) links →
       IsReached (length m) learned
-  -- where nothing was counted, told or not, one comes so, or an instance said a bad line
+  -- where nothing was counted, observed or not, one comes so, or an instance said a bad line
   pub counted : (m : Rows) → IsWithin (length letters) k most m → Gives m (answers_of kept) →
       ¬ CountedFault before.faults now.faults → All IsUncounted links →
       IsReached (length m) learned ⊎ SaysBadLine workers learned
 
--- the same where outputs weren't declared, with the names sorted by bytes in the end: the kept answers and the model have their
--- new numbers
+-- the same where outputs weren't declared, with the names sorted by bytes in the end: the recorded answers and the
+-- model have their new numbers
 pub record IsOfFree (kind : Kind) (words letters : List (List ℕ)) (workers k most : ℕ) (before now : SpawnerState) (learned : Result Learned LearnStop) (kept : List KeptAnswer) (names : List (List ℕ)) : Type 0 where
   pub links : List LinkState
   pub spawner : StartsAndRetires words before now links
@@ -102,7 +103,7 @@ pub record IsOfFree (kind : Kind) (words letters : List (List ℕ)) (workers k m
   pub all : OnOk learned (length links ≡ workers)
   pub quiet : OnOk learned (now.faults ≡ before.faults)
   pub sorted : AreSorted names
-  -- each name came up in a kept answer
+  -- each name came up in a recorded answer
   pub come_up : ComeUp kept names
   pub keeps : KeepsChildren letters None names [] kept links
   pub whole : OnOk learned (LeavesNothing letters None names keeps.since links)

@@ -12,9 +12,9 @@ use Rattle.lw_system.specs.NewLines.{most_outputs_of}
 use Rattle.lw_system.specs.Told.{AreFinished, AreOwn, IsBroken}
 use Rattle.lw_workers.specs.Machines.{run_numbers}
 
--- the kept answers of an instance are the runs that the transcript of its link spells, by the names of their outputs and
--- numbered from 0: all of them, where all that was sent is lines of these runs, or where the link broke in a reset; where it
--- broke in a step, all but the last one, which that cut off
+-- the recorded answers of an instance are the runs that the transcript of its link spells, by the names of their
+-- outputs and numbered from 0: all of them, where all that was sent is lines of these runs, or where the link broke in
+-- a reset; where it broke in a step, all but the last one, which that cut off
 pub record KeepsTranscript (letters : List (List ℕ)) (outputs : Option (List (List ℕ))) (names : List (List ℕ)) (instance : ℕ) (since : List KeptAnswer) (link : LinkState) (t : Transcript) : Type 0 where
   pub proper : IsProper letters link.faults t
   -- the names of the child's outputs, in the order in which they came where they weren't declared
@@ -30,16 +30,16 @@ abbrev pub KeepsTold : List (List ℕ) → Option (List (List ℕ)) → List (Li
 KeepsTold letters outputs names instance since link None = Unit {0}
 KeepsTold letters outputs names instance since link (Some t) = KeepsTranscript letters outputs names instance since link t
 
--- nothing of a transcript is left out: the kept answers of its instance are all the runs that it spells, and all that was sent
--- is lines of these runs
+-- nothing of a transcript is left out: the recorded answers of its instance are all the runs that it spells, and all
+-- that was sent is lines of these runs
 pub record KeepsWhole (letters : List (List ℕ)) (outputs : Option (List (List ℕ))) (names : List (List ℕ)) (instance : ℕ) (since : List KeptAnswer) (t : Transcript) : Type 0 where
   pub own : List (List ℕ)
   pub owns : AreOwn outputs own t
   pub kept : kept_runs names instance since ≡ journal_runs own 0 (spelled letters own t)
   pub covered : SpellsAll letters own t
 
--- the kept answers are the prior ones and then, for each link, the runs of its transcript, where that is told; the runs of each
--- instance are 0, 1, 2 and so on, told or not; the word of none was known when it was asked
+-- the recorded answers are the prior ones and then, for each link, the runs of its transcript, where that is observed;
+-- the runs of each instance are 0, 1, 2 and so on, observed or not; the word of none was known when it was asked
 pub record KeepsChildren (letters : List (List ℕ)) (outputs : Option (List (List ℕ))) (names : List (List ℕ)) (prior kept : List KeptAnswer) (links : List LinkState) : Type 0 where
   pub since : List KeptAnswer
   pub first : kept ≡ prior ++ since

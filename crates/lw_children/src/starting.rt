@@ -109,7 +109,7 @@ fn start_one<P: Spawner>(
     }
 }
 
-/// Starts a child for each of so many instances, and makes their sessions, in the order of the instances.
+/// Starts a child for each of this many instances, and makes their sessions, in the order of the instances.
 pub fn start_all<P: Spawner>(
     alloc: Global,
     spawner: &mut P,

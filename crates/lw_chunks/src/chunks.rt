@@ -31,7 +31,7 @@ pub trait Chunks {
         ensures err { OnErr result ((left self.new ≡ left self.old) × (chunk.new.items ≡ [])) };
 }
 
-/// Makes the word at this index of a chunk a front and an end, and keeps the memory of the word that was there.
+/// Makes the word at this index of a chunk a prefix and an end, and keeps the memory of the word that was there.
 pub fn put(
     alloc: Global,
     chunk: &mut Vec<Word>,

@@ -5,7 +5,7 @@ ghost use Rattle.lw_chunks.specs.Middle.{words_of_length, words_up_to};
 
 use lw_words::{NoMemory, Word};
 
-/// Which of the words of so many letters a word is, and how many of these there are.
+/// Which of the words of this many letters a word is, and how many of these there are.
 #[derive(Clone, Copy)]
 struct Rank {
     letters: u8,
@@ -40,7 +40,7 @@ fn rank_of(inputs: u16, longest: u8, number: u64) -> Rank
     rank
 }
 
-/// Appends the word with this number among those of at most `longest` letters over so many inputs, in shortlex order.
+/// Appends the word with this number among those of at most `longest` letters over this many inputs, in shortlex order.
 #[tactic(auto)]
 pub fn spell(word: &mut Word, inputs: u16, longest: u8, number: u64) -> Result<(), NoMemory>
     requires letters { inputs ≤ 64 }

@@ -9,7 +9,7 @@ use lw_words::NoMemory;
 /// The greatest size of a suite.
 pub const GREATEST_SUITE: u64 = 8_388_608;
 
-/// The number of words of at most `longest` letters over so many inputs.
+/// The number of words of at most `longest` letters over this many inputs.
 #[tactic(auto, using(crate::proofs::SizeLemmas::size_steps))]
 pub fn middle_count(inputs: u16, longest: u8) -> u64
     requires letters { inputs ≤ 64 }
@@ -25,7 +25,7 @@ pub fn middle_count(inputs: u16, longest: u8) -> u64
     count
 }
 
-/// The size of the suite of a machine with so many states and inputs, for `extra` states more:
+/// The size of the suite of a machine with this many states and inputs, for `extra` states more:
 /// `n·n·(1 + a + .. + a^(k+1))`, which by the W- and the Wp-method is at least the number of its words.
 pub fn suite_size(states: u16, inputs: u16, extra: u8) -> u64
     requires states { states ≤ 1024 }

@@ -54,16 +54,18 @@ pub record IsCompareRun (one two : List ℕ) (files_before files_now : FilesStat
   pub no_outputs : end.outputs ≡ None
   pub untouched : files_now.holds ≡ files_before.holds
   pub ended : EndsUnread one two files_before files_now out_before out_now err_before err_now end.outcome ⊎ EndsModelsRead one two files_before files_now out_before out_now err_before err_now end.outcome
-  -- where both files are told, the outcome is how their models compare, but that memory, a file or a stream may fail
+  -- where both files are observed, the outcome is how their models compare, but that memory, a file or a stream may
+  -- fail
   pub exact :
       (first second : Machine) (c : Comparison)
       → TellsModel files_before.holds one first
       → TellsModel files_before.holds two second
       → IsComparison first second c
       → ComesAs c end.outcome
-  -- where one of the files is told to be no model's, or too long, nothing is compared
+  -- where one of the files is observed to be no model's, or too long, nothing is compared
   pub refused : TellsNoModel files_before.holds one ⊎ TellsNoModel files_before.holds two → ComparesNothing end.outcome
-  -- where both files are told to be models', and neither the files nor `out` counted a fault, they are compared, or memory runs out
+  -- where both files are observed to be models', and neither the files nor `out` counted a fault, they are compared, or
+  -- memory runs out
   pub untroubled :
       (first second : Machine)
       → TellsModel files_before.holds one first

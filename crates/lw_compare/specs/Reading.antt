@@ -43,10 +43,10 @@ IsUnread one two before now (FileFault Second) = CountedFault before.faults now.
 IsUnread one two before now NoMemory = (now.calls ≡ before.calls) ⊎ ((now.calls ≡ first_read one false before) ⊎ (now.calls ≡ second_read one two false before))
 IsUnread one two before now _ = ⊥
 
--- it is told that the file of this model stands under the name, and it isn't too long
+-- it is observed that the file of this model stands under the name, and it isn't too long
 abbrev pub TellsModel : Option (List File) → List ℕ → Machine → Type 0
 TellsModel holds name m = TellsFile IsMachineFile holds name m
 
--- it is told that the file of no model stands under the name, or one that is too long
+-- it is observed that the file of no model stands under the name, or one that is too long
 abbrev pub TellsNoModel : Option (List File) → List ℕ → Type 0
 TellsNoModel holds name = TellsBad IsMachineFile holds name

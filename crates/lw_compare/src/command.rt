@@ -18,7 +18,7 @@ use lw_report::{End, Outcome, UNSAID, refuse};
 use lw_words::Kept;
 use std::alloc::Global;
 
-/// What two models come to.
+/// The outcome of two models.
 fn decide(alloc: Global, first: &Machine, second: &Machine) -> Outcome
     ensures { HasCompared first.now second.now result }
 {
@@ -28,7 +28,7 @@ fn decide(alloc: Global, first: &Machine, second: &Machine) -> Outcome
     }
 }
 
-/// Compares two models, and writes out what they come to.
+/// Compares two models, and writes out the outcome.
 fn finish<O: Sink, E: Sink>(
     alloc: Global,
     first: &Machine,

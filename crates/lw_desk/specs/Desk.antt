@@ -16,7 +16,7 @@ pub record DeskHistory : Type 0 where
   pub entries : List (Entry Ask Reply)
 
 -- the answers, the names and the stop are those to which the entries lead, and nothing is claimed; where each free name of the
--- opening came up in a kept answer, each that was brought since did too
+-- opening came up in a recorded answer, each that was brought since did too
 pub record Finishes (d : DeskHistory) (result : Caching × Naming × Option AskStop) : Type 0 where
   pub state : DeskState
   pub replays : Replays d.opening (opened d.opening) d.entries state
@@ -26,7 +26,7 @@ pub record Finishes (d : DeskHistory) (result : Caching × Naming × Option AskS
   pub stop : result.2 ≡ state.stop
   pub come_up : FreeComeUp d.opening.kept d.opening.naming → FreeComeUp result.0.kept result.1
 
--- so many words are left to take in a state to which the entries lead
+-- this many words are left to take in a state to which the entries lead
 pub record HasLeft (d : DeskHistory) (left : ℕ) : Type 0 where
   pub state : DeskState
   pub replays : Replays d.opening (opened d.opening) d.entries state

@@ -1,4 +1,4 @@
--- What a desk leaves: which runs the kept answers are, by names.
+-- What a desk leaves: which runs the recorded answers are, by names.
 use Rattle.std.specs.Prelude.{ℕ, ◌<◌, ◌==◌, List, length, map, filter, Contains}
 use Rattle.lw_words.specs.declared.kept.KeptAnswer.{KeptAnswer}
 use Rattle.lw_words.specs.Word.{name_at, named}
@@ -18,7 +18,7 @@ kept_runs names instance kept = map (λ k. record { run = k.run; word = k.word; 
 abbrev pub IsShared : Naming → Type 0
 IsShared naming = (instance y : ℕ) → y < length (own_names naming instance) → Contains naming.names (name_at (own_names naming instance) y)
 
--- each of these names came up in a kept answer: its number is one of the answer's outputs
+-- each of these names came up in a recorded answer: its number is one of the answer's outputs
 abbrev pub ComeUp : List KeptAnswer → List (List ℕ) → Type 0
 ComeUp kept names = (y : ℕ) → y < length names → (k : KeptAnswer) × Contains kept k × Contains k.outs y
 

@@ -10,7 +10,7 @@ use Rattle.lw_desk.specs.declared.ask.Reply.{Reply}
 use Rattle.lw_desk.specs.declared.ask.Give.{Give}
 use Rattle.lw_desk.specs.declared.ask.Failed.{Failed}
 
--- what a desk begins with: the kept answers, the names, the batch, and how many actors there are
+-- what a desk begins with: the recorded answers, the names, the batch, and how many actors there are
 pub record DeskOpening : Type 0 where
   pub kept : List KeptAnswer
   pub naming : Naming
@@ -20,7 +20,7 @@ pub record DeskOpening : Type 0 where
 abbrev pub opened : DeskOpening → DeskState
 opened o = record { naming = o.naming; kept = o.kept; claims = []; ended = []; stop = None }
 
--- how an actor stands: the places that it holds, whether it has ended, and the names that its own numbers stand for
+-- the state of an actor: the places that it holds, whether it has ended, and the names that its own numbers stand for
 pub record Seat : Type 0 where
   pub held : List ℕ
   pub ended : Bool
@@ -48,7 +48,7 @@ pub record MayMake (batch : List (List ℕ)) (free : Bool) (seat : Seat) (ask : 
   pub some : 0 < length (settled_places ask) + ask.wanted
   pub few : ask.wanted ≤ 16
 
--- how an actor stands in a state of the desk
+-- the state of an actor in a state of the desk
 abbrev pub seat_in : DeskState → ℕ → Seat
 seat_in s actor = record {
   held = map (λ c. c.place) (filter (λ c. c.actor == actor) s.claims);
@@ -90,7 +90,7 @@ abbrev pub gives_of : List (Entry Ask Reply) → List Give
 gives_of [] = []
 gives_of (e ∷ es) = e.ask.gives.items ++ gives_of es
 
--- how an actor stands after an entry of its own
+-- the state of an actor after an entry of its own
 abbrev pub names_given : List Give → List (List ℕ)
 names_given [] = []
 names_given (g ∷ gs) = g.names ++ names_given gs
@@ -110,7 +110,7 @@ abbrev pub actor_of : List (Entry Ask Reply) → ℕ
 actor_of [] = 0
 actor_of (e ∷ es) = e.actor
 
--- how the actor whose own entries are these stands
+-- the state of the actor whose own entries are these
 abbrev pub seat_of : DeskOpening → List (Entry Ask Reply) → Seat
 seat_of o mine = seat_from (record { held = []; ended = false; own = own_names o.naming (actor_of mine) }) mine
 

@@ -20,8 +20,8 @@ pub record Claimed : Type 0 where
   pub actor : ℕ
   pub place : ℕ
 
--- the names, the kept answers, the claims in the order in which they were taken, the actors that were told that nothing is
--- left or that failed, and the first stop
+-- the names, the recorded answers, the claims in the order in which they were taken, the actors that were told that
+-- nothing is left or that failed, and the first stop
 pub record DeskState : Type 0 where
   pub naming : Naming
   pub kept : List KeptAnswer
@@ -62,7 +62,7 @@ pub record AreLeft (batch : List (List ℕ)) (s : DeskState) (words : List (List
   pub exactly : (w : List ℕ) → Contains words w ↔ IsLeft batch s w
   pub once : AllDiffer words
 
--- where nothing stopped the desk, so many words are left to take
+-- where nothing stopped the desk, this many words are left to take
 abbrev pub CountsLeft : List (List ℕ) → DeskState → ℕ → Type 0
 CountsLeft batch s left = s.stop ≡ None → (words : List (List ℕ)) × AreLeft batch s words × (length words ≡ left)
 

@@ -20,7 +20,8 @@ pub struct Failed {
     pub stop: RunStop,
 }
 
-/// What an actor asks in one turn: it gives answers, fails the other places that it holds, and wants so many new ones.
+/// What an actor asks in one turn: it gives answers, fails the other places that it holds, and wants this many new
+/// ones.
 #[derive(Drop)]
 pub struct Ask {
     pub gives: Vec<Give>,

@@ -227,7 +227,7 @@ impl Board {
         Some(place)
     }
 
-    /// Claims free places, first ones first, until there are so many or nothing is left to take. Takes no memory.
+    /// Claims free places, first ones first, until there are this many or nothing is left to take. Takes no memory.
     pub(crate) fn take(&mut self, wanted: u32) -> Places
         requires few { wanted ≤ 16 }
         ensures takes { (actor : ℕ) (s : DeskState) → Agrees self.old s → (t : DeskState) ×

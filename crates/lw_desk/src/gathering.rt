@@ -21,7 +21,7 @@ struct Unknown {
 }
 
 impl Unknown {
-    /// Of no word, with room for so many.
+    /// Of no word, with room for this many.
     fn new(alloc: Global, words: usize) -> Result<Unknown, NoMemory>
         ensures batch { IfOk result (λ u. u.batch.items ≡ []) }
         ensures words { IfOk result (λ u. u.words.items ≡ []) }

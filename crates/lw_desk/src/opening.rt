@@ -3,8 +3,8 @@ use lw_names::OutNames;
 use lw_words::{Kept, Words};
 use std::marker::Model;
 
-/// What a desk begins with: the kept answers, the names, the batch, and how many actors there are. No value of it is made:
-/// contracts speak of it (`DeskOpening`).
+/// What a desk begins with: the recorded answers, the names, the batch, and how many actors there are. No value of it
+/// is made: contracts speak of it (`DeskOpening`).
 #[derive(Drop)]
 pub struct Opening {
     kept: Kept,

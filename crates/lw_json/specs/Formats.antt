@@ -213,7 +213,7 @@ pub record SpellsAnswers (w : WrittenAnswers) (a : Answers) : Type 0 where
 abbrev pub IsAnswersFile : List ℕ → Answers → Type 0
 IsAnswersFile bytes a = (d : Data) × IsJson bytes d × ((w : WrittenAnswers) × SaysAnswers d w × SpellsAnswers w a)
 
--- the names and the kept answers are the same, in the same order
+-- the names and the recorded answers are the same, in the same order
 pub record SameAnswers (a b : Answers) : Type 0 where
   pub inputs : a.inputs ≡ b.inputs
   pub outputs : a.outputs ≡ b.outputs

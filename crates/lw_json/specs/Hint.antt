@@ -30,7 +30,7 @@ printed b = if is_unescaped b then b ∷ [] else codes "\\x" ++ encode_lower (b 
 abbrev pub hint_text : List ℕ → List ℕ
 hint_text name = codes "unknown member \"" ++ (flat_map printed name ++ codes "\" in setup\n")
 
--- what is told of a setup's members: the first unknown one, or nothing where each is known
+-- what is reported of a setup's members: the first unknown one, or nothing where each is known
 abbrev pub hint_line : Option (List ℕ) → List ℕ
 hint_line None = []
 hint_line (Some name) = hint_text name

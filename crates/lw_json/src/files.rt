@@ -16,7 +16,7 @@ pub struct Machine {
     pub ghost few: { length inputs ≤ 64 },
 }
 
-/// Kept answers with the names of their letters and outputs, by their numbers. There are at most 64 inputs, and
+/// Recorded answers with the names of their letters and outputs, by their numbers. There are at most 64 inputs, and
 /// each answer is a word over them with an output for each letter, of an instance up to 16.
 #[derive(Drop)]
 pub struct Answers {

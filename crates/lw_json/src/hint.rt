@@ -8,7 +8,7 @@ use lw_words::NoMemory;
 use serde_json::{Map, Value};
 use std::alloc::Global;
 
-/// A setup, and what is told of its file: the hint at a member that a setup doesn't know, or nothing.
+/// A setup, and what is reported of its file: the hint at a member that a setup doesn't know, or nothing.
 #[derive(Drop)]
 pub struct SetupFile {
     pub setup: Setup,

@@ -26,7 +26,7 @@ abbrev pub ReadsWords : Option (List ℕ) → (letters : List (List ℕ)) → Op
 ReadsWords None letters holds before after words = (after ≡ before) × (words ≡ [])
 ReadsWords (Some name) letters holds before after words = ReadsFile (IsWordsFile letters) name holds before after words
 
--- the words of a seed, so many of such a length over so many letters, where some are to be drawn
+-- the words of a seed, this many of such a length over this many letters, where some are to be drawn
 abbrev pub AreDrawn : Option Drawn → ℕ → List (List ℕ) → Type 0
 AreDrawn None letters words = words ≡ []
 AreDrawn (Some d) letters words = words ≡ drawn_words letters d.count d.length d.seed

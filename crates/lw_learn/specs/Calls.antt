@@ -1,5 +1,5 @@
 -- The writes of a model by `learn`: the model file is written, then the answers file, up to the write that ends the run. A fault
--- of the kept answers' file is told once these are written.
+-- of the recorded answers' file is reported once these are written.
 use Rattle.std.specs.Prelude.{◌≡◌, ℕ, List, [], ◌∷◌, ◌++◌, take, Bool, true, false, Option, Some, None}
 use Rattle.lw_learn.specs.Arguments.{LearnValues}
 use Rattle.lw_outside.specs.Files.{Call, write_call}
@@ -18,7 +18,7 @@ write_of (Some name) failed = write_call name failed ∷ []
 abbrev pub all_writes : LearnValues → List Call
 all_writes a = write_of a.model false ++ write_of a.answers false
 
--- the writes up to the one of the file in this role, which failed, or behind which its fault is told
+-- the writes up to the one of the file in this role, which failed, or behind which its fault is reported
 abbrev pub writes_to : LearnValues → Role → List Call
 writes_to a Setup = []
 writes_to a Table = []
@@ -29,7 +29,7 @@ writes_to a Second = []
 writes_to a Words = []
 writes_to a Kept = all_writes a
 
--- the writes of a call of `learn` that came to the outcome
+-- the writes of a call of `learn` that ended with the outcome
 abbrev pub MadeWrites : LearnValues → Outcome → Option (List Call) → Option (List Call) → Type 0
 MadeWrites a (Learned model refinements) before now = now ≡ gained (all_writes a) before
 MadeWrites a (Accepted states refinements) before now = now ≡ gained (all_writes a) before

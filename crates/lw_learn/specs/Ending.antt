@@ -72,13 +72,13 @@ abbrev pub Carries : Goal → Result Found LearnStop → End → Type 0
 Carries goal (Ok l) end = (end.model ≡ Some l.model) × (end.learner ≡ Some l.learner) × (end.refinements ≡ refinements_of l.learner) × ModelIsTold goal l.model (refinements_of l.learner) end.outcome
 Carries goal (Err stop) end = (end.model ≡ None) × IsWithoutLearner end × StandsOrWants (learn_outcome stop) end.outcome
 
--- the names of outputs that an end has: where they weren't declared, those of the kept answers, if there are any
+-- the names of outputs that an end has: where they weren't declared, those of the recorded answers, if there are any
 abbrev pub end_outputs : Option (List (List ℕ)) → List KeptAnswer → Naming → Option Naming
 end_outputs (Some declared) kept naming = Some naming
 end_outputs None [] naming = None
 end_outputs None (k ∷ ks) naming = Some naming
 
--- once the kept answers were saved, what was learned of a system is written out, or why nothing was is said
+-- once the recorded answers were saved, what was learned of a system is written out, or why nothing was is said
 pub record IsToldOf (a : LearnValues) (s : System) (naming : Naming) (learned : Result Found LearnStop) (kept : List KeptAnswer) (was : Saved) (files_before files_now : FilesState) (out_before out_now : SinkState) (err_before err_now : SinkState) (end : End) : Type 0 where
   pub carries : Carries a.goal learned end
   pub kept_is : end.kept.answers ≡ kept
@@ -95,7 +95,7 @@ pub record IsToldOf (a : LearnValues) (s : System) (naming : Naming) (learned : 
       end.refinements) (text_of (letters_of s) naming.names kept a.extra end.outcome) err_before.taken
       err_now.taken
   pub quiet : IsLearnedOutcome end.outcome → CountsStay files_before files_now out_before out_now err_before err_now
-  -- a write that failed, of a file that is named or of a stream; or the kept answers' file failed before
+  -- a write that failed, of a file that is named or of a stream; or the recorded answers' file failed before
   pub role : (r : Role) → end.outcome ≡ FileFault r → IsWritable a r
   pub file_fault : (r : Role) → end.outcome ≡ FileFault r → r ≢ Kept →
       CountedFault files_before.faults files_now.faults
@@ -105,7 +105,7 @@ pub record IsToldOf (a : LearnValues) (s : System) (naming : Naming) (learned : 
   pub writes : MadeWrites a end.outcome files_before.calls files_now.calls
   pub counts : (files_before.faults ≤ files_now.faults) × (out_before.faults ≤ out_now.faults) × (err_before.faults ≤ err_now.faults)
 
--- whatever a learning came to, what it kept is saved first; then the rest is told
+-- however a learning ended, what it kept is saved first; then the rest is reported
 pub record IsEndOf (a : LearnValues) (s : System) (naming : Naming) (learned : Result Found LearnStop) (kept : List KeptAnswer) (files_before files_now : FilesState) (out_before out_now : SinkState) (err_before err_now : SinkState) (end : End) : Type 0 where
   pub between : FilesState
   pub was : Saved
@@ -129,7 +129,7 @@ IsUncountedSystem (Children c) before now = (¬ CountedFault before.faults now.f
 
 -- a system was learned behind prior answers
 pub record EndsLearned (a : LearnValues) (s : System) (prior : List KeptAnswer) (files_before files_now : FilesState) (spawner_before spawner_now : SpawnerState) (out_before out_now : SinkState) (err_before err_now : SinkState) (end : End) : Type 0 where
-  -- what was learned, the kept answers, the children, and why there is no model where there is none
+  -- what was learned, the recorded answers, the children, and why there is no model where there is none
   pub naming : Naming
   pub learned : Result Found LearnStop
   pub found : IsOfSystem a s prior spawner_before spawner_now learned end.kept.answers naming.names
@@ -138,8 +138,8 @@ pub record EndsLearned (a : LearnValues) (s : System) (prior : List KeptAnswer) 
       (length naming.names) a.extra a.max_states end)
   pub stops : IfErr learned (LearningStopsBy (length (letters_of s)) (count_of (declared_of s)) a.extra
       a.max_states (answers_of end.kept.answers))
-  -- where nothing outside was wrong, and a machine of n states that gives the answers is within the limits, a model comes within
-  -- n - 1 refinements, or memory runs out
+  -- where nothing outside was wrong, and a machine of n states that agrees with the answers is within the limits, a
+  -- model comes within n - 1 refinements, or memory runs out
   pub reached :
       (r : Rows)
       → NothingFailed (files_before.faults, files_now.faults) (out_before.faults, out_now.faults) (err_before.faults, err_now.faults)

@@ -10,7 +10,7 @@ use Rattle.lw_report.specs.declared.role.Role.TheVariants.{Model, Answers, Kept}
 use Rattle.lw_system.specs.declared.goal.Goal.{Goal}
 use Rattle.lw_system.specs.declared.goal.Goal.TheVariants as aim
 
--- what writing out comes to what is told of a model, which is this outcome where all was written
+-- the outcome of writing a model out, which is this one where all was written
 abbrev pub ReportIsTold : Outcome → Outcome → Type 0
 ReportIsTold told (Learned model refinements) = told ≡ Learned model refinements
 ReportIsTold told (Accepted states refinements) = told ≡ Accepted states refinements
@@ -19,20 +19,20 @@ ReportIsTold told (FileFault role) = (role ≡ Model) ⊎ ((role ≡ Answers) �
 ReportIsTold told SinkFault = Unit {0}
 ReportIsTold told _ = ⊥
 
--- what is told of a model where all is written, by what was to be learned
+-- what is reported of a model where all is written, by what was to be learned
 abbrev pub told_of : Goal → MealyMachine → ℕ → Outcome
 told_of aim.Machine model refinements = Learned model refinements
 told_of aim.Acceptor model refinements = Accepted (length model.rows) refinements
 
--- an acceptor was to be learned, and the model is none's: the first pair that says so is told
+-- an acceptor was to be learned, and the model is none's: the first pair that says so is reported
 abbrev pub IsNoAcceptor : Goal → Rows → Outcome → Type 0
 IsNoAcceptor goal rows outcome = (goal ≡ aim.Acceptor) × ((state : ℕ) × (letter : ℕ) × (outcome ≡ NotAcceptor state letter) × IsFirstUnviewed rows state letter)
 
--- what is told in place of a model: memory ran out, or it is no acceptor's
+-- what is reported in place of a model: memory ran out, or it is no acceptor's
 abbrev pub IsUntold : Goal → Rows → Outcome → Type 0
 IsUntold goal rows outcome = (outcome ≡ NoMemory) ⊎ IsNoAcceptor goal rows outcome
 
--- what a model comes to that was learned
+-- the outcome of a model that was learned
 abbrev pub ModelIsTold : Goal → MealyMachine → ℕ → Outcome → Type 0
 ModelIsTold goal model refinements outcome = ReportIsTold (told_of goal model refinements) outcome ⊎ IsNoAcceptor goal model.rows outcome
 
@@ -71,18 +71,18 @@ IsBehindOut (Accepted states refinements) = Unit {0}
 IsBehindOut (FileFault role) = role ≡ Kept
 IsBehindOut _ = ⊥
 
--- a model is told, or an acceptor
+-- a model is reported, or an acceptor
 abbrev pub IsLearnedOutcome : Outcome → Type 0
 IsLearnedOutcome (Learned model refinements) = Unit {0}
 IsLearnedOutcome (Accepted states refinements) = Unit {0}
 IsLearnedOutcome _ = ⊥
 
--- one of so many instances said a bad line
+-- one of this many instances said a bad line
 abbrev pub IsBadLine : ℕ → Outcome → Type 0
 IsBadLine workers (BadLine instance line) = instance < workers
 IsBadLine workers _ = ⊥
 
--- a model is told that came within fewer than n refinements, or memory ran out
+-- a model is reported that came within fewer than n refinements, or memory ran out
 abbrev pub IsReachedMachine : ℕ → Outcome → Type 0
 IsReachedMachine n (Learned model refinements) = refinements < n
 IsReachedMachine n NoMemory = Unit {0}

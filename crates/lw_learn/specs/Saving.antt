@@ -1,4 +1,4 @@
--- The kept answers, saved in the file that is named for them, before anything else is written.
+-- The recorded answers, saved in the file that is named for them, before anything else is written.
 use Rattle.std.specs.Prelude.{◌≡◌, ℕ, ◌≤◌, List, [], ◌∷◌, true, false, Option, Some, None}
 use Rattle.lw_words.specs.Cause.{CountedFault}
 use Rattle.lw_words.specs.declared.kept.KeptAnswer.{KeptAnswer}
@@ -18,7 +18,7 @@ IsWritten name bytes files_before files_now saving.Stand = Holds files_now.holds
 IsWritten name bytes files_before files_now saving.Failed = (files_now.calls ≡ noted (write_call name true) files_before.calls) × CountedFault files_before.faults files_now.faults
 IsWritten name bytes files_before files_now saving.NoMemory = files_now.calls ≡ files_before.calls
 
--- so was a text of kept answers, where one could be made
+-- so was a text of recorded answers, where one could be made
 abbrev pub IsTextWritten : List ℕ → (inputs outputs : List (List ℕ)) → List KeptAnswer → (files_before files_now : FilesState) → Saved → Type 0
 IsTextWritten name inputs outputs kept files_before files_now saving.Stand = (text : List ℕ) × IsAnswersText inputs outputs kept text × IsWritten name text files_before files_now saving.Stand
 IsTextWritten name inputs outputs kept files_before files_now saving.Failed = IsWritten name [] files_before files_now saving.Failed
@@ -49,14 +49,14 @@ pub record IsSaved (file : Option (List ℕ)) (inputs outputs : List (List ℕ))
   pub saved : HasSaved file inputs outputs kept files_before files_now was
   pub wants : was ≡ saving.NoMemory → outcome ≡ NoMemory
 
--- the outcome of a call without a model: memory that ran out is told, and a file that failed is not
+-- the outcome of a call without a model: memory that ran out is reported, and a file that failed is not
 abbrev pub saved_outcome : Saved → Outcome → Outcome
 saved_outcome saving.Stand outcome = outcome
 saved_outcome saving.Failed outcome = outcome
 saved_outcome saving.NoMemory outcome = NoMemory
 
--- which outcomes may come: a model is told only where saving did not fail, its failure only where it did, and memory that ran
--- out is told
+-- which outcomes may come: a model is reported only where saving did not fail, its failure only where it did, and
+-- memory that ran out is reported
 pub record MayTell (was : Saved) (outcome : Outcome) : Type 0 where
   pub learned : IsLearnedOutcome outcome → was ≡ saving.Stand
   pub failed : outcome ≡ FileFault Kept → was ≡ saving.Failed

@@ -1,4 +1,4 @@
--- Files that tell what they hold: what a call of `learn` may come to by it.
+-- Files whose contents are observed: which outcomes a call of `learn` may have by them.
 use Rattle.std.specs.Prelude.{◌≡◌, ℕ, List, Option, Some, None}
 use Rattle.lw_words.specs.Cause.{CountedFault}
 use Rattle.lw_accept.specs.AcceptorFile.{AreAcceptorLetters}
@@ -67,7 +67,7 @@ pub record TellsTask (a : LearnValues) (holds : Option (List File)) (s : System)
   pub prior : TellsPrior a.prior holds s
   pub words : TellsWords a.words holds (letters_of s)
 
--- the file of the system is told to be too long or of no system
+-- the file of the system is observed to be too long or of no system
 abbrev pub TellsNoSystem : Source → Goal → List ℕ → Option (List File) → Type 0
 TellsNoSystem source.Table goal name holds = TellsBad (IsModelFile goal) holds name
 TellsNoSystem source.Setup goal name holds = TellsBad IsSetupFile holds name
@@ -85,7 +85,7 @@ ToldIsLearned = (a : LearnValues) (files_before files_now : FilesState) (spawner
     → TellsTask a files_before.holds s → ¬ CountedFault files_before.faults files_now.faults
     → EndsUnread a files_before files_now spawner_before spawner_now out_before out_now err_before err_now end → IsNoRefusal end.outcome
 
--- where the file of the system is told to be of none, none is learned
+-- where the file of the system is observed to be of none, none is learned
 abbrev pub BadIsRefused : Type 0
 BadIsRefused = (a : LearnValues) (files_before files_now : FilesState) (spawner_before spawner_now : SpawnerState) (out_before out_now err_before err_now : SinkState) (end : End)
     → TellsNoSystem a.source a.goal a.system files_before.holds → EndsRead a files_before files_now spawner_before spawner_now out_before out_now err_before err_now end → ⊥

@@ -37,7 +37,7 @@ abbrev pub StandsInFile : Option (List ℕ) → Option (List File) → List ℕ 
 StandsInFile None holds bytes = Unit {0}
 StandsInFile (Some name) holds bytes = Holds holds name bytes
 
--- a text of the kept answers under the names of the machine stands in the file, where one is named
+-- a text of the recorded answers under the names of the machine stands in the file, where one is named
 abbrev pub AnswersStand : Option (List ℕ) → Option (List File) → Machine → List KeptAnswer → Type 0
 AnswersStand None holds m kept = Unit {0}
 AnswersStand (Some name) holds m kept = (text : List ℕ) × IsAnswersText m.inputs m.outputs kept text × Holds holds name text
@@ -50,8 +50,8 @@ pub record WritesFiles (a : LearnValues) (text : List ℕ) (m : Machine) (kept :
   pub calls : MadeWrites a outcome made.0 made.1
 
 -- what became of the text that goes to `out` where no file is named for it, by the outcome: all of it was put where the model
--- or a fault of the kept answers' file is told, and where `out` counted no fault though a stream did; some in any case; none
--- where the files weren't written
+-- or a fault of the recorded answers' file is reported, and where `out` counted no fault though a stream did; some in
+-- any case; none where the files weren't written
 pub record WritesOut (file : Option (List ℕ)) (text : List ℕ) (outcome : Outcome) (taken : Option (List ℕ) × Option (List ℕ)) (faults : ℕ × ℕ) : Type 0 where
   pub told : IsBehindOut outcome → PutsAll file text taken.0 taken.1
   pub whole : outcome ≡ SinkFault → ¬ CountedFault faults.0 faults.1 →
@@ -59,7 +59,7 @@ pub record WritesOut (file : Option (List ℕ)) (text : List ℕ) (outcome : Out
   pub part : PutsSome file text taken.0 taken.1
   pub before : IsBeforeOut outcome → taken.1 ≡ taken.0
 
--- what is told of the files beside those that are named stays
+-- what is observed of the files beside those that are named stays
 abbrev pub StaysBesides : (model answers kept : Option (List ℕ)) → Option (List File) → Option (List File) → Type 0
 StaysBesides model answers kept None after = after ≡ None
 StaysBesides model answers kept (Some fs) after =
@@ -90,7 +90,8 @@ pub record WritesModel (a : LearnValues) (kept : List KeptAnswer) (outcome : Out
 abbrev pub told_text : Machine → List KeptAnswer → ℕ → Outcome → List ℕ
 told_text m kept extra outcome = text_of m.inputs m.outputs kept extra outcome
 
--- the file in this role is one that the call writes: a file for the model, or for the answers, is named; or it is the kept answers'
+-- the file in this role is one that the call writes: a file for the model, or for the answers, is named; or it is the
+-- recorded answers'
 abbrev pub IsWritable : LearnValues → Role → Type 0
 IsWritable a role = ((role ≡ Model) × (a.model ≢ None)) ⊎ (((role ≡ Answers) × (a.answers ≢ None)) ⊎ (role ≡ Kept))
 

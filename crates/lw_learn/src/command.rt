@@ -120,13 +120,14 @@ fn learn_logged<
 
 /// Learns a system: the machine that it is, or the acceptor behind it. First the files are read that say what it is: a setup or
 /// a table file, the table file that a setup names, the file of prior answers, and the file of words that are asked first,
-/// where one is named. Then the system is learned, over so many instances: of a table's machine, or children that a setup's
-/// command starts, and that are all ended again, whatever comes: first those words and drawn ones are asked, in one batch, then
-/// the rounds go on until a model is sure. Then the answers that are kept are saved, where a file is named for them, whatever
-/// came of the learning; the model file and the answers file are written, where they are named, the model's text to `out`,
-/// where no file is named for it, and a line about it to `err`. The text of every other outcome goes to `err`. A log, where one
-/// is named, gets a line for each step, what stopped it midway, and the outcome's text; that it could not be written is said
-/// once, last of all, on `err`. May wait for a child, and for a turn of its workers.
+/// where one is named. Then the system is learned, over as many instances: of a table's machine, or children that a
+/// setup's command starts, and that are all ended again, whatever comes: first those words and drawn ones are asked, in
+/// one batch, then the rounds go on until a model is sure. Then the answers that are kept are saved, where a file is
+/// named for them, whatever came of the learning; the model file and the answers file are written, where they are
+/// named, the model's text to `out`, where no file is named for it, and a line about it to `err`. The text of every
+/// other outcome goes to `err`. A log, where one is named, gets a line for each step, what stopped it midway, and the
+/// outcome's text; that it could not be written is said once, last of all, on `err`. May wait for a child, and for a
+/// turn of its workers.
 pub fn learn<
     R: Threads + Wait + Sync + Drop,
     F: Files,

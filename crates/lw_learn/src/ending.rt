@@ -35,7 +35,7 @@ use lw_words::{Kept, Names, NoMemory};
 use lw_workers::LearningOutcome;
 use std::alloc::Global;
 
-/// What a learning came to, with the kept answers, the names of their outputs, and whether these answers were saved.
+/// How a learning ended, with the recorded answers, the names of their outputs, and whether these answers were saved.
 #[derive(Drop)]
 struct Ended<T> {
     came: T,
@@ -140,14 +140,14 @@ fn named(system: &System, names: &OutNames, model: Mealy, alloc: Global) -> Resu
     }
 }
 
-/// A model that isn't written out, and what is told in its place.
+/// A model that isn't written out, and what is reported in its place.
 #[derive(Drop)]
 struct Untold {
     model: Mealy,
     outcome: Outcome,
 }
 
-/// A model with its names, and what is told of it; or the model, and what is told in its place.
+/// A model with its names, and what is reported of it; or the model, and what is reported in its place.
 fn reported(
     alloc: Global,
     goal: Goal,
@@ -185,7 +185,7 @@ fn reported(
     }
 }
 
-/// Ends a call with its model, which isn't written out: what is told in its place goes to `err`.
+/// Ends a call with its model, which isn't written out: what is reported in its place goes to `err`.
 fn leave_model<E: Sink>(
     alloc: Global,
     outcome: Outcome,

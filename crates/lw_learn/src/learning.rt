@@ -25,7 +25,7 @@ use std::alloc::Global;
 use std::sync::Wait;
 use std::thread::Threads;
 
-/// Learns a machine, over so many instances of it.
+/// Learns a machine, over this many instances of it.
 fn learn_table<R: Threads + Wait + Sync + Drop, W: Watcher>(
     rt: R,
     alloc: Global,

@@ -1,4 +1,5 @@
-//! How a call ends whose files were refused, or which had no memory for them: what was read stands, and what was kept is saved.
+//! How a call ends whose files were refused, or which had no memory for them: what was read stays, and what was
+//! kept is saved.
 ghost use Rattle.std.specs.Prelude.{◌≡◌, ◌⊎◌, ◌≤◌, [], length, option_and_then, option_map, Some, None, Ok, IfOk};
 ghost use Rattle.lw_words.specs.Cause.{CountedFault};
 ghost use Rattle.lw_json.specs.KeptOver.{AreKeptOver};
@@ -115,7 +116,7 @@ fn save_read<F: Files>(
     save_kept(alloc, arguments, system.inputs(), names, kept, files)
 }
 
-/// What was read of a task whose prior answers clash: its system, the kept answers, and the names of their outputs.
+/// What was read of a task whose prior answers clash: its system, the recorded answers, and the names of their outputs.
 #[derive(Drop)]
 struct ReadTask {
     system: Option<System>,

@@ -1,4 +1,5 @@
-//! What is told of a model: its text, and the outcome of the call that learned it; or what is told in its place.
+//! What is reported of a model: its text, and the outcome of the call that learned it; or what is reported in its
+//! place.
 ghost use Rattle.std.specs.Prelude.{◌≡◌, IfOk, IfErr, length};
 ghost use Rattle.lw_accept.specs.AcceptorText.{acceptor_written};
 ghost use Rattle.lw_json.specs.MachineText.{written_text};
@@ -16,7 +17,7 @@ use lw_system::Goal;
 use lw_words::NoMemory;
 use std::alloc::Global;
 
-/// What is told of a machine that was learned.
+/// What is reported of a machine that was learned.
 fn machine_report(alloc: Global, machine: &Machine, refinements: u32) -> Result<Report, NoMemory>
     ensures text { IfOk result (λ r. r.text.items ≡ written_text machine.now) }
     ensures outcome { IfOk result (λ r. r.outcome ≡ Came.Learned machine.now.mealy refinements) }
@@ -29,7 +30,7 @@ fn machine_report(alloc: Global, machine: &Machine, refinements: u32) -> Result<
     Ok(Report { text, outcome })
 }
 
-/// What is told of an acceptor that was learned.
+/// What is reported of an acceptor that was learned.
 fn acceptor_told(alloc: Global, acceptor: &Acceptor, refinements: u32) -> Result<Report, NoMemory>
     ensures text { IfOk result (λ r. r.text.items ≡ acceptor_written acceptor.now) }
     ensures outcome { IfOk result (λ r. r.outcome ≡
@@ -44,7 +45,7 @@ fn acceptor_told(alloc: Global, acceptor: &Acceptor, refinements: u32) -> Result
     Ok(Report { text, outcome })
 }
 
-/// What is told of an acceptor whose machine was learned; or that there is none, or no memory for it.
+/// What is reported of an acceptor whose machine was learned; or that there is none, or no memory for it.
 fn acceptor_report(alloc: Global, machine: &Machine, refinements: u32) -> Result<Report, Outcome>
     requires asked { IsMachineFor Aim.Acceptor machine.now }
     ensures text { IfOk result (λ r. IsModelText Aim.Acceptor machine.now r.text.items) }
@@ -68,7 +69,7 @@ fn acceptor_report(alloc: Global, machine: &Machine, refinements: u32) -> Result
     }
 }
 
-/// What is told of a model, by what was to be learned, or what is told in its place.
+/// What is reported of a model, by what was to be learned, or what is reported in its place.
 pub(crate) fn model_report(
     alloc: Global,
     goal: Goal,

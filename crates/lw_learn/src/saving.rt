@@ -1,4 +1,4 @@
-//! The kept answers, saved in the file that is named for them, whatever a learning came to.
+//! The recorded answers, saved in the file that is named for them, however a learning ended.
 ghost use Rattle.std.specs.Prelude.{◌≡◌, ◌≤◌, length, None, Some, IfOk, OnOk, OnErr};
 ghost use Rattle.lw_json.specs.AnswersText.{IsAnswersText};
 ghost use Rattle.lw_json.specs.KeptOver.{AreKeptOver};
@@ -15,10 +15,10 @@ use lw_report::Outcome;
 use lw_words::{Kept, Names, NoMemory};
 use std::alloc::Global;
 
-/// What became of the file of the kept answers.
+/// What became of the file of the recorded answers.
 #[derive(Clone, Copy, Debug, PartialEq, Eq)]
 pub enum Saved {
-    /// They stand in it, where one is named and some are kept.
+    /// They are in it, where one is named and some are kept.
     Stand,
     /// It could not be written.
     Failed,
@@ -49,7 +49,7 @@ impl Saved {
     }
 }
 
-/// A text of kept answers.
+/// A text of recorded answers.
 fn kept_text(
     alloc: Global,
     inputs: &Names,
@@ -65,7 +65,7 @@ fn kept_text(
     answers_text(alloc, inputs, &outputs, kept)
 }
 
-/// Writes the file of the kept answers.
+/// Writes the file of the recorded answers.
 fn write_kept<F: Files>(files: &mut F, name: &str, bytes: &[u8]) -> Saved
     ensures written { IsWritten name.now bytes.now (F.state files.old) (F.state files.new)
         result }
@@ -81,7 +81,7 @@ fn write_kept<F: Files>(files: &mut F, name: &str, bytes: &[u8]) -> Saved
     }
 }
 
-/// Saves kept answers under a name.
+/// Saves recorded answers under a name.
 fn save_as<F: Files>(
     alloc: Global,
     name: &str,

@@ -25,8 +25,8 @@ use lw_rounds::Learner;
 use lw_words::{Kept, NoMemory};
 use std::alloc::Global;
 
-/// The texts that are written of a model: its own, that of the kept answers, where a file is named for them, and the line
-/// about it.
+/// The texts that are written of a model: its own, that of the recorded answers, where a file is named for them, and
+/// the line about it.
 #[derive(Drop)]
 struct Texts {
     model: Vec<u8>,
@@ -34,15 +34,15 @@ struct Texts {
     line: Vec<u8>,
 }
 
-/// What is told of a model: the text that is written of it, and the outcome where all was written.
+/// What is reported of a model: the text that is written of it, and the outcome where all was written.
 #[derive(Drop)]
 pub(crate) struct Report {
     pub(crate) text: Vec<u8>,
     pub(crate) outcome: Outcome,
 }
 
-/// A model with its names, the learner that it was read off, the kept answers with the names of their outputs, and whether these
-/// answers were saved.
+/// A model with its names, the learner that it was read off, the recorded answers with the names of their outputs, and
+/// whether these answers were saved.
 #[derive(Drop)]
 pub(crate) struct NamedModel {
     pub(crate) machine: Machine,
@@ -178,7 +178,7 @@ fn put_model<O: Sink>(out: &mut O, file: Option<&str>, bytes: &[u8]) -> Result<(
     }
 }
 
-/// Puts the line about a model to `err`, where the kept answers' file didn't fail.
+/// Puts the line about a model to `err`, where the recorded answers' file didn't fail.
 fn put_line<E: Sink>(saved: Saved, line: &[u8], err: &mut E) -> Result<(), TellStop>
     requires memory { ¬ (saved ≡ Was.NoMemory) }
     ensures ok { OnOk result (TakesAll line.now (E.state err.old).taken (E.state err.new).taken) }
@@ -203,8 +203,8 @@ fn put_line<E: Sink>(saved: Saved, line: &[u8], err: &mut E) -> Result<(), TellS
     }
 }
 
-/// Puts the model's text to `out`, where no file is named for it, then the line to `err`, where the kept answers' file didn't
-/// fail.
+/// Puts the model's text to `out`, where no file is named for it, then the line to `err`, where the recorded answers'
+/// file didn't fail.
 fn put_streams<O: Sink, E: Sink>(
     arguments: &LearnArguments,
     texts: &Texts,
@@ -244,9 +244,9 @@ fn put_streams<O: Sink, E: Sink>(
     put_line(saved, &texts.line, err)
 }
 
-/// Writes a model out, once the kept answers were saved: the files that are named, the model's text to `out` where none is named
-/// for it, and the line about it to `err`, or in place of the line that the kept answers' file failed. All these texts are made
-/// before the first is written.
+/// Writes a model out, once the recorded answers were saved: the files that are named, the model's text to `out` where
+/// none is named for it, and the line about it to `err`, or in place of the line that the recorded answers' file
+/// failed. All these texts are made before the first is written.
 fn write_model<F: Files, O: Sink, E: Sink>(
     alloc: Global,
     arguments: &LearnArguments,

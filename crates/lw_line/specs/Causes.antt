@@ -26,7 +26,7 @@ IsToldName t name =
     × ((letter raw : List ℕ) × (slice_get (lines_of t.sent) i ≡ Some (in_line letter)) × (slice_get (lines_of t.received) i ≡ Some raw)
     × (strip_carriage_return raw ≡ out_line name))
 
--- where it is told what went over a link, answers to letters named all of these outputs
+-- where it is observed what went over a link, answers to letters named all of these outputs
 abbrev pub AreToldNames : List (List ℕ) → Option Transcript → Type 0
 AreToldNames names None = Unit {0}
 AreToldNames names (Some t) = All (IsToldName t) names
@@ -66,9 +66,9 @@ abbrev pub TranscriptIsCovered : (inputs names : List (List ℕ)) (faults : ℕ)
 TranscriptIsCovered inputs names faults t None cut = SpellsAll inputs names t
 TranscriptIsCovered inputs names faults t (Some stop) cut = BreaksIn inputs names faults cut t
 
--- what is told of a link to a child that was asked for letters of these names and named its outputs so: its transcript is
--- proper, bears out the stop, and is covered by the runs that it spells, but for the line at which it broke: a letter's exactly
--- where the stop cut a run off
+-- what is observed of a link to a child that was asked for letters of these names and named its outputs so: its
+-- transcript is proper, bears out the stop, and is covered by the runs that it spells, but for the line at which it
+-- broke: a letter's exactly where the stop cut a run off
 abbrev pub IsTranscriptOf : (inputs names : List (List ℕ)) (most faults : ℕ) → Option SulStop → (cut : Bool) → Option Transcript → Type 0
 IsTranscriptOf inputs names most faults stop cut None = Unit {0}
 IsTranscriptOf inputs names most faults stop cut (Some t) = IsProper inputs faults t × IsSpelled names most t stop × TranscriptIsCovered inputs names faults t stop cut

@@ -29,6 +29,6 @@ AreFree most outputs = (most ≡ 256) × (outputs ≡ 4096)
 abbrev pub IsNaming : List (List ℕ) → ℕ → ℕ → Type 0
 IsNaming names most outputs = AreFree most outputs ⊎ ((most ≡ length names) × (outputs ≡ length names))
 
--- names that weren't declared were told over the link
+-- names that weren't declared came over the link
 abbrev pub AreToldIfFree : List (List ℕ) → ℕ → ℕ → Option Transcript → Type 0
 AreToldIfFree names most outputs told = AreFree most outputs → AreToldNames names told

@@ -1,4 +1,4 @@
--- What `serve` writes and how it ends, where its input is told.
+-- What `serve` writes and how it ends, where its input is observed.
 use Rattle.std.specs.Prelude.{◌≡◌, ℕ, List, [], ◌++◌, Option, Some, None, Result, Ok, Err}
 use Rattle.lw_json.specs.declared.files.Machine.{Machine}
 use Rattle.lw_outside.specs.Lines.{lines_of}
@@ -22,19 +22,19 @@ EndsAs (Err SourceFault) play = Unit {0}
 EndsAs (Err SinkFault) play = Unit {0}
 EndsAs (Err (BadLine number)) play = play.end ≡ AtBadLine number
 
--- the text was taken, and where a stream failed some of it, from its front on
+-- the text was taken, and where a stream failed a prefix of it
 abbrev pub Takes : Result Served ServeFault → List ℕ → Option (List ℕ) → Option (List ℕ) → Type 0
 Takes (Ok served) text before now = TakesAll text before now
 Takes (Err SourceFault) text before now = TakesSome text before now
 Takes (Err SinkFault) text before now = TakesSome text before now
 Takes (Err (BadLine number)) text before now = TakesAll text before now
 
--- where the input is told, serving a machine ends as a child's play on it does, and writes its answers
+-- where the input is observed, serving a machine ends as a child's play on it does, and writes its answers
 abbrev pub Plays : Machine → Option (List ℕ) → Result Served ServeFault → Option (List ℕ) → Option (List ℕ) → Type 0
 Plays m None result before now = Unit {0}
 Plays m (Some bytes) result before now = EndsAs result (played m bytes) × Takes result (ended_lines (played m bytes).answers) before now
 
--- where the input is told, no line that was read of it ends the play
+-- where the input is observed, no line that was read of it ends the play
 abbrev pub GoesOn : Machine → Option (List ℕ) → Option (List ℕ) → Type 0
 GoesOn m None after = Unit {0}
 GoesOn m (Some bytes) after = (read left : List ℕ) × (after ≡ Some left) × (bytes ≡ read ++ left) × ((played_from m 0 0 (lines_of read) []).end ≡ AtEnd)

@@ -68,7 +68,7 @@ abbrev pub SpellsAll : (inputs outputs : List (List ℕ)) → Transcript → Typ
 SpellsAll inputs outputs t = (length (lines_of t.sent) ≡ lines_taken_by (spelled inputs outputs t)) × (rest_of t.sent ≡ [])
 
 -- the line at which a link broke, which none of the runs has: the last one that was sent; or one whose sending failed, and then
--- what stands behind the last one is its front, perhaps of no bytes
+-- what follows the last one is a prefix of it, perhaps of no bytes
 abbrev pub BreaksAt : (inputs outputs : List (List ℕ)) (faults : ℕ) → Transcript → List ℕ → Type 0
 BreaksAt inputs outputs faults t line =
     ((length (lines_of t.sent) ≡ lines_taken_by (spelled inputs outputs t) + 1)

@@ -59,7 +59,7 @@ impl Inbox {
         Line::new(&self.bytes[..self.held])
     }
 
-    /// The bytes in front of the first line feed, or all where there is none; of a line that is too long none.
+    /// The bytes before the first line feed, or all where there is none; of a line that is too long none.
     pub fn front(&self) -> Line {
         if self.is_full() {
             return Line::new(b"");

@@ -37,7 +37,7 @@ IsChain place owner before [] after = Unit {0}
 IsChain place owner before (x ∷ xs) after =
     (place x ≡ record { owner = Some owner; previous = before; next = first_or xs after }) × IsChain place owner (Some x) xs after
 
--- the cells from a start by `next`, so many at most
+-- the cells from a start by `next`, this many at most
 abbrev pub walk : (ℕ → Place) → ℕ → Option ℕ → List ℕ
 walk place zero start = []
 walk place (suc n) None = []

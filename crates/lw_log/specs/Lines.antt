@@ -50,11 +50,11 @@ escaped b = if is_plain b then b ∷ [] else if b == 92 then codes "\\\\" else c
 abbrev pub IsPrintable : ℕ → Type 0
 IsPrintable b = (32 ≤ b) × (b ≤ 126)
 
--- all bytes are told as printable text, so none of them breaks a line
+-- all bytes are written as printable text, so none of them breaks a line
 abbrev pub TellsPrintably : Type 0
 TellsPrintably = (bytes : List ℕ) → All (λ b. b < 256) bytes → All IsPrintable (flat_map escaped bytes)
 
--- no two texts of bytes are told alike
+-- no two texts of bytes are written alike
 abbrev pub LosesNothing : Type 0
 LosesNothing =
     (a b : List ℕ) → All (λ x. x < 256) a → All (λ x. x < 256) b → flat_map escaped a ≡ flat_map escaped b → a ≡ b

@@ -29,12 +29,13 @@ PutsIfMade lines state before now = Puts lines state before now ⊎ ((state ≡ 
 abbrev pub joined_lines : List (List ℕ) → List ℕ
 joined_lines lines = flat_map (λ line. line) lines
 
--- some lines were put from the front on, and one was not
+-- some lines were put, from the first on, and one was not
 abbrev pub PutsFront : List (List ℕ) → List ℕ → List ℕ → Type 0
 PutsFront lines before now =
     (front : List (List ℕ)) × (line : List ℕ) × (rest : List (List ℕ)) × (lines ≡ front ++ line ∷ rest) × (now ≡ before ++ joined_lines front)
 
--- lines are put one by one: it is open and has them all, or it has a front of them, and the file failed or there was no memory
+-- lines are put one by one: it is open and has them all, or it has a prefix of them, and the file failed or there was
+-- no memory
 abbrev pub PutsEach : List (List ℕ) → LogState → LogFileState → LogFileState → Type 0
 PutsEach lines Closed before now = ⊥
 PutsEach lines Open before now = (now.name ≡ before.name) × (now.text ≡ before.text ++ joined_lines lines) × (now.faults ≡ before.faults)

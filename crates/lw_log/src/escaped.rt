@@ -38,7 +38,8 @@ pub(crate) fn put_escaped(alloc: Global, text: &mut String, bytes: &[u8]) -> Res
     Ok(())
 }
 
-/// A law, with no code: bytes are told as printable text, so none breaks a line, and no two texts of bytes are told alike.
+/// A law, with no code: bytes are written as printable text, so none breaks a line, and no two texts of bytes are
+/// written alike.
 pub fn bytes_are_told_readably()
     ensures printable { TellsPrintably }
     ensures once { LosesNothing }

@@ -65,15 +65,16 @@ pub record IsMinimal (a : ℕ) (m : Rows) : Type 0 where
 abbrev pub Equal : ℕ → Rows → Rows → Type 0
 Equal a m n = (w : List ℕ) → IsWord a w → answer m w ≡ answer n w
 
--- What it means that a machine gives answers. Source: the observation tables of Angluin (1987).
+-- What it means that a machine agrees with answers. Source: the observation tables of Angluin (1987).
 
 -- the machine's outputs on the word of each answer are those of the answer
 abbrev pub Gives : Rows → List Answer → Type 0
 Gives m ks = All (λ k. answer m k.word ≡ k.outs) ks
 
--- What kept answers are worth. Source: Vasilevskii (1973) and Chow (1978).
+-- What recorded answers are worth. Source: Vasilevskii (1973) and Chow (1978).
 
--- every machine over the letters that has at most k states more than h and gives the answers equals h on all words.
+-- every machine over the letters that has at most k states more than h and agrees with the answers equals h on all
+-- words.
 -- `Worked.antt` of lw_certify shows a machine with answers of which it holds, and answers with a gap of which it doesn't.
 abbrev pub Sure : ℕ → Rows → List Answer → ℕ → Type 0
 Sure a h ks k = (m : Rows) → IsMachine a m → length m ≤ length h + k → Gives m ks → Equal a m h

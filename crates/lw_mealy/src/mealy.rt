@@ -39,7 +39,7 @@ impl Model for Mealy {
     ghost invariant = { λ m. IsWithinLimits (mealy_of m.inputs m.outputs (map (λ r. r.items) m.rows.items)) };
 }
 
-/// The first row that hasn't so many pairs.
+/// The first row that hasn't this many pairs.
 fn first_ragged(rows: &[Vec<(u16, u16)>], inputs: u16) -> Option<usize>
     ensures none { IfNone result (IsSquare inputs (map (λ r. r.items) rows.now)) }
     ensures some { IfSome result (FailsFirst (λ r. length r ≡ inputs)
@@ -136,7 +136,7 @@ fn copy_rows(alloc: Global, rows: &[Vec<(u16, u16)>]) -> Result<Vec<Vec<(u16, u1
     Ok(copies)
 }
 
-/// Puts `to[y]` in the place of each output `y` of a row.
+/// Puts `to[y]` in place of each output `y` of a row.
 fn renumber_row(row: &mut [(u16, u16)], to: &[u16])
     requires { All (λ c. c.1 < length to.now) row.old }
     ensures { row.new ≡ renumbered_cells to.now row.old }
@@ -146,7 +146,7 @@ fn renumber_row(row: &mut [(u16, u16)], to: &[u16])
     }
 }
 
-/// Puts `to[y]` in the place of each output `y` of all rows.
+/// Puts `to[y]` in place of each output `y` of all rows.
 fn renumber_rows(rows: &mut [Vec<(u16, u16)>], to: &[u16])
     requires { All (λ r. All (λ c. c.1 < length to.now) r) (map (λ r. r.items) rows.old) }
     ensures { map (λ r. r.items) rows.new ≡ renumbered_rows to.now (map (λ r. r.items) rows.old) }
@@ -306,7 +306,7 @@ impl Mealy {
         })
     }
 
-    /// Puts `to[y]` in the place of each output `y`, all of which are below the new number of outputs. Takes no memory.
+    /// Puts `to[y]` in place of each output `y`, all of which are below the new number of outputs. Takes no memory.
     pub fn renumber(&mut self, outputs: u16, to: &[u16])
         requires outputs { (1 ≤ outputs) × (outputs ≤ 4096) }
         requires within { AllRenumber outputs to.now self.old.rows }

@@ -17,7 +17,7 @@ abbrev pub with_names : List (List ℕ) → List (List ℕ) → List (List ℕ)
 with_names names [] = names
 with_names names (n ∷ ns) = with_names (with_name names n) ns
 
--- the names of a system: at most so many, all of them names, all different
+-- the names of a system: at most this many, all of them names, all different
 pub record AreNamed (most : ℕ) (names : List (List ℕ)) : Type 0 where
   pub few : length names ≤ most
   pub each : All IsName names

@@ -7,8 +7,8 @@ use Rattle.std.specs.Cmp.Lexicographic.{slice_cmp}
 use Rattle.lw_words.specs.Word.{IsName, AllDiffer, name_at, named, number_in}
 use Rattle.lw_names.specs.Names.{with_names}
 
--- the names, by the numbers that kept answers have; and where they are free, the names that each instance brought, by the
--- instance's own numbers
+-- the names, by the numbers that recorded answers have; and where they are free, the names that each instance brought,
+-- by the instance's own numbers
 pub record Naming : Type 0 where
   pub names : List (List ℕ)
   pub brought : Option (List (List (List ℕ)))

@@ -21,8 +21,8 @@ const MOST_INSTANCES: usize = 16;
 /// How many names an instance brings at most.
 const MOST_OWN: usize = 256;
 
-/// The names of outputs, by the numbers that kept answers have. They are declared; or they are free, and then each instance
-/// brings names, and its own numbers of them are kept too.
+/// The names of outputs, by the numbers that recorded answers have. They are declared; or they are free, and then each
+/// instance brings names, and its own numbers of them are kept too.
 /// Contracts see the names, and what each instance brought (`Naming`).
 #[derive(Drop)]
 pub struct OutNames {

@@ -51,7 +51,7 @@ pub(crate) fn sort_names(names: &mut Vec<OutName>)
     names.sort_unstable_by(|one: &OutName, other: &OutName| compare(one, other));
 }
 
-/// Puts `to[y]` in the place of each number `y`.
+/// Puts `to[y]` in place of each number `y`.
 fn renumber(numbers: &mut [u16], to: &[u16])
     requires { All (λ y. y < length to.now) numbers.old }
     ensures { numbers.new ≡ renumbered to.now numbers.old }
@@ -61,7 +61,7 @@ fn renumber(numbers: &mut [u16], to: &[u16])
     }
 }
 
-/// Puts `to[y]` in the place of each number `y` of all tables.
+/// Puts `to[y]` in place of each number `y` of all tables.
 pub(crate) fn renumber_tables(tables: &mut [Vec<u16>], to: &[u16])
     requires { All (All (λ y. y < length to.now)) (map (λ t. t.items) tables.old) }
     ensures items { map (λ t. t.items) tables.new

@@ -25,17 +25,17 @@ abbrev pub file_at : List ℕ → List File → Option (List ℕ)
 file_at name [] = None
 file_at name (f ∷ fs) = first_present (file_at name fs) (if bytes_eq name f.0 then Some f.1 else None)
 
--- these bytes stand under the name, where it is told what files hold
+-- these bytes stand under the name, where it is observed what files hold
 abbrev pub Holds : Option (List File) → List ℕ → List ℕ → Type 0
 Holds None name bytes = Unit {0}
 Holds (Some fs) name bytes = file_at name fs ≡ Some bytes
 
--- a file that is too long to be read stands under the name, where it is told what files hold
+-- a file that is too long to be read stands under the name, where it is observed what files hold
 abbrev pub HoldsLong : Option (List File) → List ℕ → Type 0
 HoldsLong None name = Unit {0}
 HoldsLong (Some fs) name = (bytes : List ℕ) × (file_at name fs ≡ Some bytes) × (longest_file < length bytes)
 
--- what is told of the other files stays
+-- what is observed of the other files stays
 abbrev pub StaysBeside : List ℕ → Option (List File) → Option (List File) → Type 0
 StaysBeside name None after = after ≡ None
 StaysBeside name (Some fs) after = (gs : List File) × (after ≡ Some gs) × ((other : List ℕ) → other ≢ name → file_at other gs ≡ file_at other fs)
@@ -52,12 +52,12 @@ read_call name failed = record { name = name; writes = false; failed = failed }
 abbrev pub write_call : List ℕ → Bool → Call
 write_call name failed = record { name = name; writes = true; failed = failed }
 
--- told calls, and one more
+-- observed calls, and one more
 abbrev pub noted : Call → Option (List Call) → Option (List Call)
 noted call calls = option_map (λ cs. cs ++ call ∷ []) calls
 
--- what contracts see of files: what they hold, and the calls that were answered other than out of memory, where that is told;
--- the names of the reads that gave bytes, with the bytes, in their order; and how often a call failed
+-- what contracts see of files: what they hold, and the calls that were answered other than out of memory, where that is
+-- observed; the names of the reads that gave bytes, with the bytes, in their order; and how often a call failed
 pub record FilesState : Type 0 where
   pub holds : Option (List File)
   pub calls : Option (List Call)
@@ -92,7 +92,7 @@ pub record FilesWrite (name bytes : List ℕ) (before now : FilesState) (result 
   pub quiet : OnOk result (now.faults ≡ before.faults)
   pub counts : before.faults ≤ now.faults
 
--- one read gave these bytes of the named file, no more than a file may have; and they stand there, where that is told
+-- one read gave these bytes of the named file, no more than a file may have; and they are there, where that is observed
 pub record WasRead (holds : Option (List File)) (before after : List File) (name bytes : List ℕ) : Type 0 where
   pub given : after ≡ before ++ (name, bytes) ∷ []
   pub short : length bytes ≤ longest_file

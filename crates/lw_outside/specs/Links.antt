@@ -26,26 +26,26 @@ abbrev pub SendsPart : List ℕ → Option Transcript → Option Transcript → 
 SendsPart bytes None now = now ≡ None
 SendsPart bytes (Some t) now = (n : ℕ) × (n < length bytes) × (now ≡ Some (sends (take n bytes) t))
 
--- nothing is told to have been sent or received
+-- nothing is observed to have been sent or received
 abbrev pub IsUntouched : Option Transcript → Type 0
 IsUntouched None = Unit {0}
 IsUntouched (Some t) = t ≡ untouched
 
 -- what contracts see of a link: how many links its spawner had started before it, how often it failed since its start, how often
--- it told the end of what is received, and what went over it, where that is told
+-- it told the end of what is received, and what went over it, where that is observed
 pub record LinkState : Type 0 where
   pub number : ℕ
   pub faults : ℕ
   pub ends : ℕ
   pub transcript : Option Transcript
 
--- told commands of starts, and one more
+-- observed commands of starts, and one more
 abbrev pub with_start : List (List ℕ) → Option (List (List (List ℕ))) → Option (List (List (List ℕ)))
 with_start words commands = option_map (λ cs. cs ++ words ∷ []) commands
 
 -- what contracts see of what starts children: how often a start failed, how many links it started, those that it retired, in
--- their order, the words of each start that was answered other than out of memory, where they are told, and why the last of
--- its starts that failed did so
+-- their order, the words of each start that was answered other than out of memory, where they are observed, and why the
+-- last of its starts that failed did so
 pub record SpawnerState : Type 0 where
   pub faults : ℕ
   pub started : ℕ

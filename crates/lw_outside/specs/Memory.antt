@@ -108,7 +108,7 @@ transcript_of l = record { sent = l.sent; received = l.received }
 abbrev pub waiting : MemoryLinkState → List ℕ
 waiting l = drop (length l.received) (said l.speaker l.sent)
 
--- what was received is a front of what was said
+-- what was received is a prefix of what was said
 abbrev pub HasHeard : MemoryLinkState → Type 0
 HasHeard l = said l.speaker l.sent ≡ l.received ++ waiting l
 

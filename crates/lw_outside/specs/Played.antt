@@ -83,7 +83,7 @@ play_of_move n Refuse on = play_ended_at n (AtBadLine (n + 1))
 abbrev pub greatest_lines : ℕ
 greatest_lines = 2 ^ 32 - 1
 
--- from a state, after so many lines, on further lines and what stands behind the last of them
+-- from a state, after this many lines, on further lines and what stands behind the last of them
 abbrev pub played_from : Machine → ℕ → ℕ → List (List ℕ) → List ℕ → Play
 played_from m q n [] rest = if n == greatest_lines then play_ended_at n AtLimit else rest_end n rest
 played_from m q n (l ∷ ls) rest = if n == greatest_lines then play_ended_at n AtLimit else play_of_move n (move_of m q l) (λ r. played_from m r (n + 1) ls rest)

@@ -2,21 +2,21 @@
 use Rattle.std.specs.Prelude.{◌≡◌, ◌≢◌, ℕ, ◌<◌, ◌≤◌, List, [], ◌++◌, length, take, Option, Some, None, Result, IfOk, OnOk, OnErr, option_map}
 use Rattle.lw_words.specs.Cause.{CountedFault}
 
--- these bytes were the front of what was told to be left
+-- these bytes were the first of those that were observed to be left
 abbrev pub Gave : List ℕ → Option (List ℕ) → Option (List ℕ) → Type 0
 Gave bytes None after = after ≡ None
 Gave bytes (Some left) after = (rest : List ℕ) × (after ≡ Some rest) × (left ≡ bytes ++ rest)
 
--- told bytes, and the first n of these
+-- observed bytes, and the first n of these
 abbrev pub taken_more : ℕ → List ℕ → Option (List ℕ) → Option (List ℕ)
 taken_more n bytes taken = option_map (λ t. t ++ take n bytes) taken
 
--- nothing is told to be left
+-- nothing is observed to be left
 abbrev pub IsSpent : Option (List ℕ) → Type 0
 IsSpent None = Unit {0}
 IsSpent (Some left) = left ≡ []
 
--- told bytes are the earlier ones and some of a text's, from its front on
+-- observed bytes are the earlier ones and a prefix of a text
 abbrev pub TakesSome : List ℕ → Option (List ℕ) → Option (List ℕ) → Type 0
 TakesSome text before now = (n : ℕ) × (now ≡ option_map (λ t. t ++ take n text) before)
 
@@ -27,14 +27,14 @@ TakesPart text before now = (n : ℕ) × (n < length text) × (now ≡ option_ma
 abbrev pub TakesAll : List ℕ → Option (List ℕ) → Option (List ℕ) → Type 0
 TakesAll text before now = now ≡ option_map (λ t. t ++ text) before
 
--- what contracts see of a stream that gives bytes: those that are left, where that is told, how often it failed, and how often it
--- told its end
+-- what contracts see of a stream that gives bytes: those that are left, where that is observed, how often it failed,
+-- and how often it told its end
 pub record SourceState : Type 0 where
   pub left : Option (List ℕ)
   pub faults : ℕ
   pub ends : ℕ
 
--- what contracts see of a stream that takes bytes: those that it took, where that is told, and how often it failed
+-- what contracts see of a stream that takes bytes: those that it took, where that is observed, and how often it failed
 pub record SinkState : Type 0 where
   pub taken : Option (List ℕ)
   pub faults : ℕ

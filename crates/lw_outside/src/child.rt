@@ -39,7 +39,7 @@ impl Child {
         }
     }
 
-    /// Puts the next bytes into the front of a buffer, as many as there are but at most so many, and says how many.
+    /// Puts the next bytes into the start of a buffer, as many as there are but at most this many, and says how many.
     pub(crate) fn fill_front(&mut self, sent: &[u8], buffer: &mut [u8], most: usize) -> usize
         requires stands { Stands self.old sent.now }
         requires within { most ≤ length buffer.old }
@@ -50,7 +50,7 @@ impl Child {
         self.fill(sent, &mut buffer[..most])
     }
 
-    /// Puts the next bytes into the front of a buffer, as many as there are or fit, and says how many.
+    /// Puts the next bytes into the start of a buffer, as many as there are or fit, and says how many.
     fn fill(&mut self, sent: &[u8], buffer: &mut [u8]) -> usize
         requires { Stands self.old sent.now }
         ensures bound { result ≤ length buffer.new }

@@ -22,8 +22,8 @@ pub enum WriteStop {
     NoMemory,
 }
 
-/// Files by name. What they hold, and the calls on them, are told by the memory form alone; what the reads gave is told by
-/// every form, for contracts.
+/// Files by name. What they hold, and the calls on them, are observed of the memory form alone; what the reads gave is
+/// observed of every form, for contracts.
 pub trait Files {
     ghost state: { Self → FilesState };
 

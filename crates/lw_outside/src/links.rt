@@ -15,8 +15,8 @@ pub trait Link {
         requires { 0 < length bytes.now }
         ensures { LinkSend bytes.now (state self.old) (state self.new) result };
 
-    /// Puts some received bytes into the front of the buffer, and says how many; 0 is the end. Behind them the buffer may
-    /// hold anything. May wait for the child.
+    /// Puts some received bytes into the start of the buffer, and says how many; 0 is the end. Behind them the buffer
+    /// may hold anything. May wait for the child.
     fn take(&mut self, buffer: &mut [u8]) -> Result<usize, Failed>
         requires { 0 < length buffer.old }
         ensures { LinkTake buffer.new (state self.old) (state self.new) result };

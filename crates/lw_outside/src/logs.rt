@@ -7,7 +7,7 @@ use crate::Failed;
 pub trait LogFile {
     ghost state: { Self → LogFileState };
 
-    /// Makes the log of this name, empty. Where that fails, what is told stays that of the log before.
+    /// Makes the log of this name, empty. Where that fails, what is observed stays that of the log before.
     fn open(&mut self, name: &str) -> Result<(), Failed>
         ensures { LogFileOpen name.now (state self.old) (state self.new) result };
 

@@ -62,7 +62,7 @@ fn push_within(list: &mut Vec<u8>, bytes: &[u8])
 }
 
 impl MemoryLink {
-    /// A link to this child, of these parts, with room for so many bytes that are sent and received.
+    /// A link to this child, of these parts, with room for this many bytes that are sent and received.
     pub(crate) fn start(number: usize, child: Child, room: usize, parts: LinkParts) -> MemoryLink
         requires fresh { IsFresh child }
         requires room { HasRoom room parts }

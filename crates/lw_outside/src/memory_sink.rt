@@ -9,7 +9,7 @@ use lw_words::NoMemory;
 use std::alloc::Global;
 use std::marker::Model;
 
-/// A stream in memory with room for so many bytes, of which it takes at most a piece at a time.
+/// A stream in memory with room for this many bytes, of which it takes at most a piece at a time.
 /// Contracts see the bytes that it took, the room that is left, the piece, the plan of the calls that are to fail with the
 /// number of the next one, and the count of faults.
 #[derive(Drop)]

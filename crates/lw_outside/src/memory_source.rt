@@ -34,7 +34,7 @@ impl Model for MemorySource {
 }
 
 #[tactic(auto, using(crate::proofs::StreamLemmas::gave_front))]
-/// Copies bytes from a place on to the front of a buffer, at most a piece, and says how many.
+/// Copies bytes from a place on to the start of a buffer, at most a piece, and says how many.
 fn give(bytes: &[u8], given: usize, piece: usize, buffer: &mut [u8]) -> usize
     requires { given ≤ length bytes.now }
     ensures count { result ≡ min (min (length buffer.old) piece) (length bytes.now - given) }

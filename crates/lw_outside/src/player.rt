@@ -46,7 +46,7 @@ fn without_return(received: &[u8]) -> &[u8]
     }
 }
 
-/// What stands behind the front of a line that begins with it.
+/// What follows a prefix in a line that begins with it.
 fn behind_front<'a>(front: &[u8], line: &'a [u8]) -> Option<&'a [u8]>
     ensures { option_map (λ l. l.now) result ≡ bytes_behind front.now line.now }
 {

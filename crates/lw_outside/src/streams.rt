@@ -11,7 +11,7 @@ pub struct Failed;
 pub trait Source {
     ghost state: { Self → SourceState };
 
-    /// Puts some bytes into the front of the buffer, and says how many; 0 is the end. Behind them the buffer may hold
+    /// Puts some bytes into the start of the buffer, and says how many; 0 is the end. Behind them the buffer may hold
     /// anything.
     fn read(&mut self, buffer: &mut [u8]) -> Result<usize, Failed>
         requires { 0 < length buffer.old }
@@ -22,7 +22,7 @@ pub trait Source {
 pub trait Sink {
     ghost state: { Self → SinkState };
 
-    /// Takes some of the bytes, at least one, from the front on, and says how many.
+    /// Takes some of the bytes, at least one, from the first on, and says how many.
     fn put(&mut self, bytes: &[u8]) -> Result<usize, Failed>
         requires { 0 < length bytes.now }
         ensures { SinkPut bytes.now (state self.old) (state self.new) result };

@@ -1,10 +1,10 @@
--- What the learner comes to, in one type: it comes to one end at most.
+-- The result of the learner, in one type: it has one result at most.
 use Rattle.std.specs.Prelude.{◌≡◌, ℕ, List}
 use Rattle.lw_mealy.specs.Machine.{Rows}
 use Rattle.lw_plain.specs.Rounds.{Task, LearnsPlainly, IsPlainCrowd, IsPlainTooLarge}
 
--- a model, the number of refinements and the batches; the words of a crowd and the batches; or a model, the size of its suite and the
--- batches
+-- a model, the number of refinements and the batches; words that are pairwise apart and the batches; or a model, the
+-- size of its suite and the batches
 pub data PlainEnd : Type 0 where
   Learned : Rows → ℕ → List (List (List ℕ)) → PlainEnd
   Crowd : List (List ℕ) → List (List (List ℕ)) → PlainEnd

@@ -1,4 +1,4 @@
--- A learner as a function of the machine that it learns: its rounds, and what it comes to.
+-- A learner as a function of the machine that it learns: its rounds, and its result.
 -- Source: Angluin (1987), whose equivalence query is here a suite, as that of Vasilevskii (1973) and Chow (1978).
 use Rattle.std.specs.Prelude.{◌≡◌, ◌≢◌, ◌⊎◌, ℕ, zero, suc, ◌+◌, ◌-◌, ◌*◌, ◌/◌, ◌<◌, ◌≤◌, List, [], ◌∷◌, ◌++◌, map, length, take, drop, Contains, Option, Some, None}
 use Rattle.std.specs.List.{All, flat_map, range_with_len}
@@ -51,13 +51,13 @@ first_chunks words n = map (chunk_at words) (range_with_len 0 n)
 abbrev pub AgreesOn : Rows → Rows → List ℕ → Type 0
 AgreesOn m h w = answer h w ≡ answer m w
 
--- the shortest front of a word to which machine h answers otherwise
+-- the shortest prefix of a word to which machine h answers otherwise
 pub record IsShortest (m h : Rows) (word front : List ℕ) : Type 0 where
   pub place : ℕ
   pub first : DifferFirst (answer h word) (answer m word) place
   pub is : front ≡ take (place + 1) word
 
--- the shortest front of the first such word of a list; the chunks up to the one with that word were asked
+-- the shortest prefix of the first such word of a list; the chunks up to the one with that word were asked
 pub record FailsWords (m h : Rows) (words : List (List ℕ)) (front : List ℕ) (asked : List (List (List ℕ))) : Type 0 where
   pub number : ℕ
   pub first : FailsFirst (AgreesOn m h) words number
@@ -118,7 +118,7 @@ IsRefinedTimes task (suc n) start t = (before : PlainTable) × IsRefinedTimes ta
 abbrev pub IsTableAfter : Task → List (List ℕ) → ℕ → PlainTable → Type 0
 IsTableAfter task given n t = IsRefinedTimes task n (closed_by task (first_table task.letters given)) t
 
--- What the learner comes to.
+-- The result of the learner.
 
 -- the model is the canonical form of a table's machine, which gives its suite
 pub record LearnsPlainly (task : Task) (given : List (List ℕ)) (model : Rows) (refinements : ℕ) (batches : List (List (List ℕ))) : Type 0 where

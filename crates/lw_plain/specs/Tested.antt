@@ -7,7 +7,7 @@ use Rattle.lw_cache.specs.Cut.{word_at}
 use Rattle.lw_plain.specs.Table.{PlainTable, with_batches}
 use Rattle.lw_plain.specs.Rounds.{AgreesOn, IsShortest, first_chunks, FailsWords, PassesWords}
 
--- the shortest front of the first word of a list to which machine h answers otherwise
+-- the shortest prefix of the first word of a list to which machine h answers otherwise
 pub record FailsAt (m h : Rows) (words : List (List ℕ)) (front : List ℕ) : Type 0 where
   pub number : ℕ
   pub first : FailsFirst (AgreesOn m h) words number
@@ -22,7 +22,7 @@ pub record TestsWords (m h : Rows) (words : List (List ℕ)) (before now : Plain
   pub is : now ≡ with_batches before asked
   pub comes : MatchOption found (PassesWords m h words asked) (λ front. FailsWords m h words front asked)
 
--- so many chunks were asked, on which machine h agrees
+-- this many chunks were asked, on which machine h agrees
 pub record HasTested (m h : Rows) (words left : List (List ℕ)) (before now : PlainTable) : Type 0 where
   pub number : ℕ
   pub rest : left ≡ drop (512 * number) words

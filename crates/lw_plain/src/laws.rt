@@ -20,7 +20,7 @@ pub fn search_finds_cut()
     ensures { SearchFinds }
 {}
 
-/// The learner comes to one end at most.
+/// The learner has one result at most.
 pub fn plain_end_is_unique()
     ensures { OnePlainEnd }
 {}

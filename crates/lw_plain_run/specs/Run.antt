@@ -1,4 +1,4 @@
--- What the slow learner answers: what the learner of the definition comes to.
+-- The result of the slow learner: that of the learner of the definition.
 use Rattle.std.specs.Prelude.{◌≡◌, ℕ, List}
 use Rattle.lw_mealy.specs.Machine.{MealyMachine}
 use Rattle.lw_plain.specs.Rounds.{Task, LearnsPlainly, IsPlainCrowd, IsPlainTooLarge}
@@ -13,7 +13,7 @@ task_of m extra most = record { letters = m.inputs; machine = m.rows; extra = ex
 abbrev pub IsAlike : MealyMachine → MealyMachine → Type 0
 IsAlike m model = (model.inputs ≡ m.inputs) × (model.outputs ≡ m.outputs)
 
--- what is learned of a machine with so many extra states and at most so many states, where words were given
+-- what is learned of a machine with this many extra states and at most this many states, where words were given
 abbrev pub IsPlainRun : MealyMachine → ℕ → ℕ → List (List ℕ) → PlainRun → Type 0
 IsPlainRun m extra most given (run.Learned model refinements batches) = IsAlike m model × LearnsPlainly (task_of m extra most) given model.rows refinements batches
 IsPlainRun m extra most given (run.Crowd words batches) = IsPlainCrowd (task_of m extra most) given words batches

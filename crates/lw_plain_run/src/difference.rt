@@ -11,7 +11,7 @@ use lw_mealy::Mealy;
 use lw_words::{NoMemory, Word, Words, shortlex};
 use std::alloc::Global;
 
-/// The shortest front of a word to which a machine answers otherwise.
+/// The shortest prefix of a word to which a machine answers otherwise.
 fn shortest_difference(m: &Mealy, h: &Mealy, word: &Word) -> Result<Option<Word>, NoMemory>
     requires letters { IsWord m.now.inputs word.now }
     requires same_letters { h.now.inputs ≡ m.now.inputs }
@@ -102,7 +102,7 @@ pub fn least_revealed(
     least_difference(m, h, &words)
 }
 
-/// The shortest front of the first word to which a machine answers otherwise.
+/// The shortest prefix of the first word to which a machine answers otherwise.
 pub fn first_difference(m: &Mealy, h: &Mealy, words: &[Word]) -> Result<Option<Word>, NoMemory>
     requires letters { All (IsWord m.now.inputs) words.now }
     requires same_letters { h.now.inputs ≡ m.now.inputs }

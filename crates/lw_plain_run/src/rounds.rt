@@ -24,7 +24,7 @@ use lw_suite::{Suite, suite_is_of_words};
 use lw_words::{NoMemory, Word};
 use std::alloc::Global;
 
-/// What a round comes to.
+/// The result of a round.
 #[derive(Drop)]
 pub enum Round {
     /// The table was refined.
@@ -62,7 +62,7 @@ fn refine(
     Ok(())
 }
 
-/// What a machine without a suite comes to.
+/// The result of a machine without a suite.
 fn without_suite(model: Mealy, fault: SuiteFault) -> Result<Round, NoMemory>
     ensures { IfOk result (λ round. (number : ℕ) × (fault ≡ Fault.TooLarge number) ×
         (round ≡ Round.TooLarge model number)) }

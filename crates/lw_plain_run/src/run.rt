@@ -1,11 +1,11 @@
-//! What the slow learner comes to.
+//! The result of the slow learner.
 ghost use Rattle.lw_plain_run.specs.Run.{OnePlainRun};
 
 use crate::Batches;
 use lw_mealy::Mealy;
 use lw_words::Words;
 
-/// What the learner comes to, and the batches that it asked.
+/// The result of the learner, and the batches that it asked.
 #[derive(Drop)]
 pub enum PlainRun {
     Learned {

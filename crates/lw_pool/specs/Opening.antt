@@ -30,7 +30,8 @@ pub record MayJoin (naming : Naming) (inputs outputs number : ℕ) (s : Seen) : 
 abbrev pub AllMayJoin : {S : Type 0} → (SessionState S → Member S) → Naming → (inputs outputs : ℕ) → List (SessionState S) → Type 0
 AllMayJoin f naming inputs outputs sessions = (i : ℕ) (d : SessionState _) → i < length sessions → MayJoin naming inputs outputs i (f (slice_index_or sessions i d)).seen
 
--- answers that a pool may begin with: of the instance 16, in the runs of their places, over its letters and its names
+-- prior answers that a pool may begin with: under the number 16, in the runs of their places, over its letters and its
+-- names
 pub record MayBegin (naming : Naming) (inputs outputs : ℕ) (prior : List KeptAnswer) : Type 0 where
   pub prior_is : ArePrior prior
   pub answers : All (λ k. IsAnswer inputs (answer_of k)) prior

@@ -73,15 +73,16 @@ abbrev pub journal_runs : List (List ℕ) → ℕ → List Run → List NamedRun
 journal_runs names n [] = []
 journal_runs names n (r ∷ rs) = record { run = n; word = r.word; names = named names r.outs } ∷ journal_runs names (n + 1) rs
 
--- the kept answers stand for the prior ones and the journals: first the prior ones, and then, for each instance, the runs of
--- its journal in order, numbered from 0, with the same letters and the same names of outputs, and nothing else
+-- the recorded answers stand for the prior ones and the journals: first the prior ones, and then, for each instance,
+-- the runs of its journal in order, numbered from 0, with the same letters and the same names of outputs, and nothing
+-- else
 pub record StandsFor (naming : Naming) (prior kept : List KeptAnswer) (seen : List Seen) : Type 0 where
   pub since : List KeptAnswer
   pub first : kept ≡ prior ++ since
   pub instances : All (λ k. k.instance < length seen) since
   pub runs : (i : ℕ) → i < length seen → kept_runs naming.names i since ≡ journal_runs (seen_at seen i).names 0 (seen_at seen i).journal
 
--- prior answers: of the instance 16, each in the run of its place
+-- prior answers: under the number 16, each in the run of its place
 abbrev pub ArePrior : List KeptAnswer → Type 0
 ArePrior prior = (i : ℕ) (d : KeptAnswer) → i < length prior → ((slice_index_or prior i d).instance ≡ 16) × ((slice_index_or prior i d).run ≡ i)
 

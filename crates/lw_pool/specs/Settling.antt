@@ -22,7 +22,7 @@ use Rattle.lw_pool.specs.Pool.{PoolState, WentOn, seen_at, seen_of, origins_of}
 use Rattle.lw_pool.specs.Standing.{PoolStands}
 use Rattle.lw_pool.specs.Working.{DidItsPart}
 
--- the kept answers gain some at their end, to words that had to be asked, each at most once
+-- the recorded answers gain some at their end, to words that had to be asked, each at most once
 pub record GainsSome (batch : List (List ℕ)) (before now : List KeptAnswer) : Type 0 where
   pub gained : List KeptAnswer
   pub at_end : now ≡ before ++ gained
@@ -33,8 +33,8 @@ pub record GainsSome (batch : List (List ℕ)) (before now : List KeptAnswer) : 
 abbrev pub desk_of : {S : Type 0} → PoolState S → List (List ℕ) → DeskOpening
 desk_of p batch = record { kept = p.kept; naming = p.naming; batch = batch; actors = length p.members }
 
--- a batch was worked off at one desk: the entries of its history, each in turn, lead to the kept answers, the names and the stop,
--- which so is the first one of the batch; and each entry is a session's, which did what its entries say
+-- a batch was worked off at one desk: the entries of its history, each in turn, lead to the recorded answers, the names
+-- and the stop, which so is the first one of the batch; and each entry is a session's, which did what its entries say
 pub record IsWorkedOff {S : Type 0} (batch : List (List ℕ)) (before now : PoolState S) : Type 0 where
   pub entries : List (Entry Ask Reply)
   pub state : DeskState
@@ -63,8 +63,8 @@ pub record HasSettled {S : Type 0} (batch : List (List ℕ)) (before now : PoolS
   pub instances : All (λ k. k.instance < length (seen_of before)) gains.gained
   -- between its calls a pool is one
   pub stands : PoolStands now
-  -- the refusal is told; after a system's stop or a clash nothing more is asked; and a clash that comes is that of the first
-  -- answer of this batch that is not clear
+  -- the refusal is reported; after a system's stop or a clash nothing more is asked; and a clash that comes is that of
+  -- the first answer of this batch that is not clear
   pub stop : TellsStop result now.stop
   pub refused : now.refused ≡ refused_after before.refused result
   pub sticks : ¬ MayAsk before.stop → now ≡ before

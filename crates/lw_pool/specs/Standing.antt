@@ -20,8 +20,8 @@ pub record IsPoolMember (naming : Naming) (inputs outputs number : ℕ) (s : See
   pub live : s.stop ≡ None → s.names ≡ own_names naming number
   pub journal : All (λ r. All (λ y. y < length (own_names naming number)) r.outs) s.journal
 
--- sessions by instance, names, prior and all kept answers, the last refusal, and whether there was one, that are a pool's: each
--- free name came up in a kept answer, and no system has stopped where nothing was ever refused
+-- sessions by instance, names, prior and all recorded answers, the last refusal, and whether there was one, that are a
+-- pool's: each free name came up in a recorded answer, and no system has stopped where nothing was ever refused
 pub record IsPool (seen : List Seen) (naming : Naming) (prior kept : List KeptAnswer) (stop : Option AskStop) (refused : Bool) (inputs outputs : ℕ) : Type 0 where
   pub some : 0 < length seen
   pub few : length seen ≤ 16

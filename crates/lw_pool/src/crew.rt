@@ -23,7 +23,8 @@ pub(crate) struct Engaged {
     pub(crate) reply: Reply,
 }
 
-/// How many places a worker takes at once, where so many are left: few enough that all workers share the end of a batch.
+/// How many places a worker takes at once, where this many are left: few enough that all workers share the end of a
+/// batch.
 pub fn share(left: u32, crew: u32) -> u32
     ensures some { 0 < result }
     ensures few { result ≤ 16 }

@@ -228,7 +228,7 @@ fn run_threads<S: Sul + Send, R: Threads + Wait + Sync>(
     thread::for_each_mut(rt, hands, threads, &run);
 }
 
-/// Runs so many hands at once, and then the others one after the other.
+/// Runs this many hands at once, and then the others one after the other.
 fn run_all<S: Sul + Send, R: Threads + Wait + Sync>(
     rt: &R,
     alloc: Global,

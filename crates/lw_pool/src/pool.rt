@@ -185,8 +185,8 @@ fn answer_of(stop: Option<AskStop>) -> Result<(), AskStop>
 }
 
 impl<S: Sul + Drop, R: Drop> Pool<S, R> {
-    /// A pool of these sessions, in the order of their instances, over these names; all systems have so many inputs and
-    /// outputs. What the cache keeps are prior answers.
+    /// A pool of these sessions, in the order of their instances, over these names; all systems have this many inputs
+    /// and outputs. What the cache keeps are prior answers.
     /// Where there is no memory all is handed back.
     pub fn new(
         rt: R,
@@ -242,7 +242,7 @@ impl<S: Sul + Send, R: Threads + Wait + Sync> Pool<S, R> {
     /// # Errors
     /// The first stop of the batch, in the order of the turns. After a stop of a system or a clash every later call answers the
     /// same and asks nothing. After `NoMemory` a later call may succeed; what came behind it in that batch, a clash too, is
-    /// kept and not told, and a system that stopped then tells it again when it is asked.
+    /// kept and not reported, and a system that stopped then reports it again when it is asked.
     pub fn settle_all(&mut self, batch: &[Word]) -> Result<(), AskStop>
         requires letters { All (IsWord self.old.inputs) batch.now }
         requires few { length batch.now < 2 ^ 32 }
@@ -278,7 +278,7 @@ impl<S: Sul, R> Pool<S, R> {
         &parts.cache
     }
 
-    /// The names of the kept answers' outputs.
+    /// The names of the recorded answers' outputs.
     pub fn names(&self) -> &OutNames
         ensures names { result.now ≡ self.now.naming }
         ensures stands { PoolStands self.now }

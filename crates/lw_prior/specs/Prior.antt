@@ -6,7 +6,7 @@ use Rattle.lw_cache.specs.Clash.{NothingClashes}
 use Rattle.lw_cache.specs.declared.stops.Clash.{Clash}
 use Rattle.lw_cache.specs.FirstClash.{IsFirstClash}
 
--- an answer under the instance 16 and this run, its outputs by the numbers that their names have in another list
+-- a prior answer, under the number 16 and this run, its outputs by the numbers that their names have in another list
 abbrev pub prior_answer : ℕ → (own names : List (List ℕ)) → KeptAnswer → KeptAnswer
 prior_answer n own names k = record { instance = 16; run = n; word = k.word; outs = map (λ y. number_in names (name_at own y)) k.outs }
 
@@ -19,7 +19,7 @@ prior_from n own names (k ∷ ks) = prior_answer n own names k ∷ prior_from (n
 abbrev pub prior_answers : (own names : List (List ℕ)) → List KeptAnswer → List KeptAnswer
 prior_answers own names ks = prior_from 0 own names ks
 
--- the first two answers that no one machine gives, where there are any
+-- the first two answers that no one machine agrees with, where there are any
 abbrev pub HasFirstClash : List Answer → Option Clash → Type 0
 HasFirstClash ks None = NothingClashes ks
 HasFirstClash ks (Some clash) = IsFirstClash ks clash

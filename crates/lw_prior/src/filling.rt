@@ -9,7 +9,7 @@ use lw_cache::{Cache, Clash, KeepStop};
 use lw_words::{Kept, KeptAnswer, NoMemory};
 use std::alloc::Global;
 
-/// Answers in a cache, and the first two of them that no one machine gives, if there are any.
+/// Answers in a cache, and the first two of them that no one machine agrees with, if there are any.
 #[derive(Drop)]
 pub struct Prior {
     pub cache: Cache,

@@ -70,7 +70,7 @@ fn place(alloc: Global, kept: &Kept) -> Result<Prior, NoMemory>
     Ok(Prior { cache, clash })
 }
 
-/// The kept answers of a file, with `to[y]` in the place of each output `y`.
+/// The recorded answers of a file, with `to[y]` in place of each output `y`.
 fn renumbered(answers: Answers, to: &[u16]) -> Kept
     requires { All (λ k. All (λ y. y < length to.now) k.outs) answers.kept.answers }
     ensures { result.answers ≡ renumbered_answers to.now answers.kept.answers }
@@ -80,7 +80,7 @@ fn renumbered(answers: Answers, to: &[u16]) -> Kept
     kept
 }
 
-/// The answers of a file as those that a learning begins with: of the instance 16, in the runs of their places, and with
+/// The answers of a file as the prior answers of a learning: under the number 16, in the runs of their places, and with
 /// each output by the number that its name has among the system's. The letters must be the system's, and each name of an
 /// output among the system's.
 pub fn prior_of(

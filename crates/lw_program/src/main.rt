@@ -58,8 +58,8 @@ fn tell<E: Sink>(err: &mut E, texts: &[&str]) {
     }
 }
 
-/// The status of a learning that names a file twice, which is told: by two names, or as its log and for something else. None of
-/// any other call.
+/// The status of a learning that names a file twice, which is reported: by two names, or as its log and for something
+/// else. None of any other call.
 fn refuse<E: Sink>(rt: &HostRuntime, arguments: &[String], err: &mut E) -> Option<u8> {
     let arguments = learning(rt.alloc(), arguments)?;
     let (model, answers, kept) = (arguments.model(), arguments.answers(), arguments.kept());

@@ -28,8 +28,8 @@ said_runs names runs = map (λ r. run_in_names names r.word r.outs) runs
 abbrev pub said_answers : (names : List (List ℕ)) → List KeptAnswer → List SaidRun
 said_answers names kept = map (λ k. run_in_names names k.word k.outs) kept
 
--- runs that give these answers again, each of them and in their order: of a machine where that is told, with outputs that have
--- names
+-- runs that give these answers again, each of them and in their order: of a machine where that is observed, with
+-- outputs that have names
 pub record AreAgain (machine : Option Rows) (outputs : List (List ℕ)) (answers : List KeptAnswer) (names : List (List ℕ)) (runs : List Run) : Type 0 where
   pub same : said_runs names runs ≡ said_answers outputs answers
   pub below : All (λ r. All (λ y. y < length names) r.outs) runs

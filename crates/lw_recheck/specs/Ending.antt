@@ -30,7 +30,7 @@ pub record IsTold (inputs outputs : Option (List (List ℕ))) (why : Outcome) (k
   pub unput : out_now ≡ out_before
   pub said : IsSaid (said_text inputs outputs kept 0 end.outcome) err_before err_now
 
--- the line that so many answers are the same was put to `out`
+-- the line that this many answers are the same was put to `out`
 pub record IsPut (answers : ℕ) (out_before out_now err_before err_now : SinkState) (end : End) : Type 0 where
   pub outcome : end.outcome ≡ Rechecked answers
   pub line : TakesAll (rechecked_line answers) out_before.taken out_now.taken
@@ -50,11 +50,11 @@ pub record IsCutOff (answers : ℕ) (kept : List KeptAnswer) (out_before out_now
   pub part : TakesSome (rechecked_line answers) out_before.taken out_now.taken
   pub said : IsSaid (said_text None None kept 0 SinkFault) err_before err_now
 
--- each of so many answers was given again
+-- each of this many answers was given again
 abbrev pub EndsSame : ℕ → List KeptAnswer → (out_before out_now err_before err_now : SinkState) → End → Type 0
 EndsSame answers kept out_before out_now err_before err_now end = IsPut answers out_before out_now err_before err_now end ⊎ (IsUnput kept out_before out_now err_before err_now end ⊎ IsCutOff answers kept out_before out_now err_before err_now end)
 
--- how the outcome was told
+-- how the outcome was reported
 abbrev pub EndsBy : (inputs outputs : Option (List (List ℕ))) → Outcome → List KeptAnswer → (out_before out_now err_before err_now : SinkState) → End → Type 0
 EndsBy inputs outputs (Rechecked answers) kept out_before out_now err_before err_now end = EndsSame answers kept out_before out_now err_before err_now end
 EndsBy inputs outputs why kept out_before out_now err_before err_now end = IsTold inputs outputs why kept out_before out_now err_before err_now end

@@ -1,4 +1,4 @@
--- What asking again comes to.
+-- The outcomes of asking again.
 use Rattle.std.specs.Prelude.{ℕ, Option, Some, None, Result, Ok, Err}
 use Rattle.lw_words.specs.declared.stop.RunStop.{RunStop}
 use Rattle.lw_words.specs.declared.stop.RunStop.TheVariants.{Sul, NoMemory}
@@ -7,7 +7,7 @@ use Rattle.lw_report.specs.Learnings.{system_outcome}
 use Rattle.lw_report.specs.declared.outcome.Outcome.{Outcome}
 use Rattle.lw_report.specs.declared.outcome.Outcome.TheVariants as outcome
 
--- of so many answers: a child that stops is the one of instance 0
+-- of this many answers: a child that stops is the one of instance 0
 abbrev pub came_outcome : ℕ → Result (Option Clash) RunStop → Outcome
 came_outcome answers (Ok None) = outcome.Rechecked answers
 came_outcome answers (Ok (Some clash)) = outcome.Nondeterministic clash

@@ -22,7 +22,7 @@ use lw_system::System;
 use lw_words::{Kept, Names, RunStop};
 use std::alloc::Global;
 
-/// What asking so many answers again comes to: a child is the one of instance 0.
+/// The outcome of asking this many answers again: a child is the one of instance 0.
 fn came_outcome(answers: u64, came: Result<Option<Clash>, RunStop>) -> Outcome
     ensures { result ≡ came_outcome answers came }
 {
@@ -34,7 +34,7 @@ fn came_outcome(answers: u64, came: Result<Option<Clash>, RunStop>) -> Outcome
     }
 }
 
-/// What came of asking so many answers again.
+/// What came of asking this many answers again.
 fn told_of(answers: u64, asked: RecheckEnd) -> Told
     ensures kept { result.kept.answers ≡ asked.kept.answers }
     ensures names { result.names ≡ Some asked.names }

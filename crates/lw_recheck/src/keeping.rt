@@ -51,8 +51,8 @@ fn put_text(texts: &mut Vec<String>, text: String) -> Result<(), NoMemory>
     Ok(())
 }
 
-/// Names, and behind them those of a system's outputs that aren't among them. More than a list of names may have is told as
-/// out of memory.
+/// Names, and behind them those of a system's outputs that aren't among them. More than a list of names may have is
+/// reported as out of memory.
 fn joined<S: Sul>(alloc: Global, names: &Names, sul: &S, outs: &[u16]) -> Result<Names, NoMemory>
     requires { All (λ y. y < length (S.state sul.now).names) outs.now }
     ensures grown { IfOk result (IsGrown names.now) }

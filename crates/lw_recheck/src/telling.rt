@@ -16,7 +16,7 @@ use lw_report::{End, Outcome, Said, TellStop, UNSAID, refuse, text};
 use lw_words::{Kept, Names};
 use std::alloc::Global;
 
-/// Puts the line that so many answers were given again.
+/// Puts the line that this many answers were given again.
 fn put_same<O: Sink>(
     alloc: Global,
     answers: u64,
@@ -44,7 +44,8 @@ fn put_same<O: Sink>(
     Ok(())
 }
 
-/// Ends a call in which so many answers were given again: puts the line to `out`, or the text of what came between to `err`.
+/// Ends a call in which this many answers were given again: puts the line to `out`, or the text of what came between to
+/// `err`.
 fn end_same<O: Sink, E: Sink>(
     alloc: Global,
     answers: u64,

@@ -16,7 +16,7 @@ abbrev pub RenamedAnswers : Type 0
 RenamedAnswers = (f : ℕ → ℕ) (a : ℕ) (m : Rows) (w : List ℕ) → IsMachine a m → IsWord a w
     → answer (renamed_rows f m) w ≡ map f (answer m w)
 
--- a renamed machine gives the renamed answers
+-- a renamed machine agrees with the renamed answers
 abbrev pub RenamedGives : Type 0
 RenamedGives = (f : ℕ → ℕ) (a : ℕ) (m : Rows) (ks : List Answer) → IsMachine a m → AreAnswers a ks
     → Gives m ks → Gives (renamed_rows f m) (renamed_answers f ks)
@@ -48,7 +48,7 @@ RenamedIsRead = (f g : ℕ → ℕ) (a : ℕ) (ks : List Answer) (w o : List ℕ
     → AreAnswers a ks
     → Reads ks w o → Reads (renamed_answers f ks) w (map f o)
 
--- a crowd stays one
+-- words that are pairwise apart stay so
 abbrev pub RenamedIsCrowd : Type 0
 RenamedIsCrowd = (f g : ℕ → ℕ) (a : ℕ) (ks : List Answer) (words : List (List ℕ)) → Renames f g
     → AreAnswers a ks
@@ -84,7 +84,7 @@ RenamedIsEnough = (f g : ℕ → ℕ) (method : Method) (a c k : ℕ) (ks : List
     → Renames f g → AreAnswers a ks → IsMachine a model.rows → IsEnoughFor method a k ks model
     → IsEnoughFor method a k (renamed_answers f ks) (mealy_of a c (renamed_rows f model.rows))
 
--- where no machine of fewer than n states gives the answers, none gives the renamed answers
+-- where no machine of fewer than n states agrees with the answers, none agrees with the renamed answers
 abbrev pub RenamedIsLeast : Type 0
 RenamedIsLeast = (f g : ℕ → ℕ) (a n : ℕ) (ks : List Answer) → Renames f g → AreAnswers a ks
     → ((m : Rows) → IsMachine a m → Gives m ks → n ≤ length m)

@@ -22,7 +22,7 @@ pub record IsRenumbering (to : List ℕ) (before now : List (List ℕ)) (f g : �
   pub past : (y : ℕ) → length before ≤ y → f y ≡ y
   pub named : (y : ℕ) → y < length before → name_at now (f y) ≡ name_at before y
 
--- the outputs of kept answers, by their names
+-- the outputs of recorded answers, by their names
 abbrev pub outs_named : List (List ℕ) → List KeptAnswer → List (List (List ℕ))
 outs_named names kept = map (λ k. named names k.outs) kept
 
@@ -30,7 +30,7 @@ outs_named names kept = map (λ k. named names k.outs) kept
 abbrev pub MapsWithin : ℕ → List ℕ → Type 0
 MapsWithin n to = (y : ℕ) → y < n → slice_index_or to y 0 < n
 
--- the model with so many outputs, by the list of their new numbers; what stopped a learning stays
+-- the model with this many outputs, by the list of their new numbers; what stopped a learning stays
 abbrev pub renumbered_learned : ℕ → List ℕ → Result Learned LearnStop → Result Learned LearnStop
 renumbered_learned outputs to (Ok l) = Ok (record {
   model = mealy_of l.model.inputs outputs (renumbered_rows to l.model.rows);
@@ -46,7 +46,7 @@ renamed_learned outputs f (Ok l) = Ok (record {
 })
 renamed_learned outputs f (Err stop) = Err stop
 
--- the model is certified, and no machine of fewer states gives the answers
+-- the model is certified, and no machine of fewer states agrees with the answers
 pub record IsCertifiedLeast (a b k : ℕ) (ks : List Answer) (model : MealyMachine) : Type 0 where
   pub certified : IsCertified a b k ks model
   pub least : (m : Rows) → IsMachine a m → Gives m ks → length model.rows ≤ length m

@@ -6,7 +6,7 @@ pub fn renamed_answers_are()
     ensures { RenamedAnswers }
 {}
 
-/// A machine that gives answers gives them renamed, when it is renamed itself.
+/// A machine that agrees with answers agrees with them renamed, when it is renamed itself.
 pub fn renamed_gives()
     ensures { RenamedGives }
 {}

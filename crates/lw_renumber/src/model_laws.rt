@@ -11,7 +11,7 @@ pub fn renamed_is_suite()
     ensures { RenamedIsSuite }
 {}
 
-/// Answers that fix a machine among those of so many states more fix it renamed.
+/// Answers that fix a machine among those of this many states more fix it renamed.
 pub fn renamed_is_sure()
     ensures { RenamedIsSure }
 {}
@@ -26,7 +26,7 @@ pub fn renamed_is_enough()
     ensures { RenamedIsEnough }
 {}
 
-/// Where no machine of fewer states gives the answers, none gives them renamed.
+/// Where no machine of fewer states agrees with the answers, none agrees with them renamed.
 pub fn renamed_is_least()
     ensures { RenamedIsLeast }
 {}

@@ -13,7 +13,7 @@ use lw_names::OutNames;
 use lw_rounds::{LearnStop, Learned};
 use lw_words::Kept;
 
-/// Puts `to[y]` in the place of each output `y` of a model, which has then so many outputs.
+/// Puts `to[y]` in place of each output `y` of a model, which has then this many outputs.
 pub(crate) fn renumber_learned(learned: &mut Result<Learned, LearnStop>, outputs: u16, to: &[u16])
     requires few { outputs ≤ 4096 }
     requires room { outputs ≤ length to.now }
@@ -28,7 +28,7 @@ pub(crate) fn renumber_learned(learned: &mut Result<Learned, LearnStop>, outputs
     }
 }
 
-/// Sorts the names of outputs that weren't declared, and gives the outputs of the kept answers and of
+/// Sorts the names of outputs that weren't declared, and gives the outputs of the recorded answers and of
 /// the model their new numbers, which are in `to` then. Takes no memory.
 ///
 /// The learner that the model was read off, and a model whose suite is too large, keep the old numbers.

@@ -54,7 +54,7 @@ mealy_reason (mealy.Target state letter target) = codes "no such target at state
 mealy_reason (mealy.Output state letter output) = codes "no such output at state " ++ (decimal state ++ (codes ", letter " ++ (decimal letter ++ (codes ": " ++ decimal output))))
 mealy_reason mealy.NoMemory = codes "no memory"
 
--- why a file is none of its kind; `NoMemory` is never told so
+-- why a file is none of its kind; `NoMemory` is never reported so
 abbrev pub reason_of : JsonFault → List ℕ
 reason_of NotJson = codes "not JSON"
 reason_of (Shape field) = codes "shape of " ++ field_name field
@@ -72,7 +72,7 @@ part_name part.Accepting = codes "accepting"
 part_name part.Inputs = codes "inputs"
 part_name part.Targets = codes "targets"
 
--- why a file is no acceptor's; `NoMemory` is never told so
+-- why a file is no acceptor's; `NoMemory` is never reported so
 abbrev pub acceptor_reason : AcceptorFault → List ℕ
 acceptor_reason acceptor.NotJson = codes "not JSON"
 acceptor_reason (acceptor.Shape field) = codes "shape of " ++ part_name field

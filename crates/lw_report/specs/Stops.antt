@@ -1,4 +1,4 @@
--- The outcome that a file comes to that was not read, a start that gave no child, and an outcome that was not told.
+-- The outcomes of a file that was not read, of a start that gave no child, and of an outcome that was not reported.
 use Rattle.lw_accept.specs.declared.fault.AcceptorFault.{AcceptorFault}
 use Rattle.lw_outside.specs.declared.links.StartFailure.{StartFailure}
 use Rattle.lw_outside.specs.declared.links.StartStop.{StartStop}
@@ -20,7 +20,7 @@ use Rattle.lw_report.specs.declared.stops.TellStop.TheVariants.{File, Sink, NoMe
 use Rattle.lw_report.specs.declared.outcome.Outcome.{Outcome}
 use Rattle.lw_report.specs.declared.outcome.Outcome.TheVariants.{BadFile, FileTooLong, NoMemory, FileFault, SinkFault, Unstarted, BadAcceptor}
 
--- what a file in this role that was not read comes to
+-- the outcome of a file in this role that was not read
 abbrev pub read_outcome : Role → ReadStop JsonFault → Outcome
 read_outcome role Failed = FileFault role
 read_outcome role TooLong = FileTooLong role
@@ -32,35 +32,35 @@ abbrev pub role_of : Source → Role
 role_of source.Setup = role.Setup
 role_of source.Table = role.Table
 
--- what files come to that say no system
+-- the outcome of files that say no system
 abbrev pub unread_outcome : SystemStop → Outcome
 unread_outcome stop = read_outcome (role_of stop.file) stop.stop
 
--- what an acceptor file in this role that was not read comes to
+-- the outcome of an acceptor file in this role that was not read
 abbrev pub acceptor_outcome : Role → ReadStop AcceptorFault → Outcome
 acceptor_outcome role Failed = FileFault role
 acceptor_outcome role TooLong = FileTooLong role
 acceptor_outcome role (Bad fault) = BadAcceptor fault
 acceptor_outcome role NoMemoryToRead = NoMemory
 
--- what files come to that say no system that is asked for an acceptor
+-- the outcome of files that say no system that is asked for an acceptor
 abbrev pub no_acceptor_outcome : AcceptorStop → Outcome
 no_acceptor_outcome (acceptor.Setup stop) = read_outcome role.Setup stop
 no_acceptor_outcome (acceptor.Table stop) = acceptor_outcome role.Table stop
 no_acceptor_outcome (acceptor.Letters fault) = BadAcceptor fault
 no_acceptor_outcome acceptor.NoMemory = NoMemory
 
--- what files come to that say no system, by what is to be learned of it
+-- the outcome of files that say no system, by what is to be learned of it
 abbrev pub no_system_outcome : NoSystem → Outcome
 no_system_outcome (none.Machine stop) = unread_outcome stop
 no_system_outcome (none.Acceptor stop) = no_acceptor_outcome stop
 
--- what a start that gave no child comes to
+-- the outcome of a start that gave no child
 abbrev pub start_outcome : StartFailure → StartStop → Outcome
 start_outcome cause start.Failed = Unstarted cause
 start_outcome cause start.NoMemory = NoMemory
 
--- what an outcome that was not told comes to
+-- the outcome in place of one that was not reported
 abbrev pub tell_outcome : TellStop → Outcome
 tell_outcome (File role) = FileFault role
 tell_outcome Sink = SinkFault

@@ -1,5 +1,5 @@
 -- The text of each outcome, which ends in a line feed: a function of the outcome, of the names of the inputs and outputs, of
--- the kept answers and of the number of extra states.
+-- the recorded answers and of the number of extra states.
 use Rattle.std.specs.Prelude.{ℕ, Bool, List, [], ◌++◌, length, codes, slice_get, if◌then◌else◌, Option, Some, None}
 use Rattle.std.specs.Fmt.{decimal}
 use Rattle.std.specs.List.{flat_map, join_by}
@@ -24,12 +24,13 @@ use Rattle.lw_report.specs.declared.outcome.Outcome.TheVariants.{Learned, Trial,
 abbrev pub word_line : List (List ℕ) → List ℕ → List ℕ
 word_line names w = codes "\"" ++ (word_text names w ++ codes "\"\n")
 
--- a model's number of states, how often its learner was refined, the extra states, and the number of kept answers
+-- a model's number of states, how often its learner was refined, the extra states, and the number of recorded answers
 abbrev pub learned_line : (states refinements extra answers : ℕ) → List ℕ
 learned_line states refinements extra answers =
     codes "learned: states " ++ (decimal states ++ (codes ", refinements " ++ (decimal refinements ++ (codes ", extra " ++ (decimal extra ++ (codes ", answers " ++ (decimal answers ++ codes "\n")))))))
 
--- an acceptor's number of states, how often the learner was refined, the extra states, and the number of kept answers
+-- an acceptor's number of states, how often the learner was refined, the extra states, and the number of recorded
+-- answers
 abbrev pub accepted_line : (states refinements extra answers : ℕ) → List ℕ
 accepted_line states refinements extra answers =
     codes "accepted: states " ++ (decimal states ++ (codes ", refinements " ++ (decimal refinements ++ (codes ", extra " ++ (decimal extra ++ (codes ", answers " ++ (decimal answers ++ codes "\n")))))))
@@ -102,7 +103,7 @@ run_line inputs outputs (Some k) =
     ++ (decimal k.run
     ++ (codes ": " ++ (word_text inputs k.word ++ (codes " / " ++ (word_text outputs k.outs ++ codes "\n")))))))
 
--- the place at which two kept answers differ, and both
+-- the place at which two recorded answers differ, and both
 abbrev pub clash_lines : List (List ℕ) → List (List ℕ) → List KeptAnswer → Clash → List ℕ
 clash_lines inputs outputs kept clash =
     codes "nondeterministic at place "

@@ -14,9 +14,9 @@ use lw_rounds::{Learned, Learner};
 use lw_words::Kept;
 use std::alloc::Global;
 
-/// The end of a call of the program: what it came to with its exit status; the model where there is one, also where a later
-/// write failed, with the learner that it was read off and how often that was refined; the kept answers; and the names of the
-/// outputs by which the model and the kept answers are numbered, where a call has them.
+/// The end of a call of the program: its outcome with its exit status; the model where there is one, also where a later
+/// write failed, with the learner that it was read off and how often that was refined; the recorded answers; and the
+/// names of the outputs by which the model and the recorded answers are numbered, where a call has them.
 #[derive(Drop)]
 pub struct End {
     pub outcome: Outcome,

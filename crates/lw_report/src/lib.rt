@@ -1,4 +1,5 @@
-//! What a call of the program comes to: its outcome, exit status and text, and the files and streams that it reads and writes.
+//! How a call of the program ends: its outcome, exit status and text, and the files and streams that it reads and
+//! writes.
 #![tactic(auto)]
 
 mod acceptor_texts;

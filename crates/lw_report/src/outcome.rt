@@ -1,4 +1,4 @@
-//! What a call of the program comes to, and its exit status.
+//! The outcome of a call of the program, and its exit status.
 ghost use Rattle.std.specs.Prelude.{◌≡◌};
 ghost use Rattle.lw_report.specs.Outcomes.{status_of};
 
@@ -12,8 +12,8 @@ use lw_mealy::Mealy;
 use lw_outside::StartFailure;
 use lw_words::{Line, Words};
 
-/// A trial: so many states and inputs of a machine that was drawn by the seed; the states, refinements and kept answers of what
-/// was learned of it; and whether that is the machine.
+/// A trial: this many states and inputs of a machine that was drawn by the seed; the states, refinements and recorded
+/// answers of what was learned of it; and whether that is the machine.
 #[derive(Clone, Copy, Debug, PartialEq, Eq)]
 pub struct Tried {
     pub states: u16,
@@ -25,7 +25,7 @@ pub struct Tried {
     pub equal: bool,
 }
 
-/// What a call of the program came to.
+/// The outcome of a call of the program.
 #[derive(Drop)]
 pub enum Outcome {
     /// The model that the answers fix among all machines of not many more states, and how often its learner was refined.
@@ -35,7 +35,7 @@ pub enum Outcome {
     Accepted { states: u16, refinements: u32 },
     /// A drawn machine was learned.
     Trial(Tried),
-    /// The answers fix the model, of so many states, among all machines of at most so many extra states more.
+    /// The answers fix the model, of this many states, among all machines of at most this many extra states more.
     Yes { states: u16 },
     /// A machine was played as a child, up to where nothing more was asked of it.
     Served(Served),
@@ -43,7 +43,7 @@ pub enum Outcome {
     Compared(Comparison),
     /// Each word was asked, and answered.
     Asked,
-    /// Each of so many answers was given again.
+    /// Each of this many answers was given again.
     Rechecked { answers: u64 },
     /// The answers don't fix the model, for this cause, which is none of `TooLarge` and `Sure`.
     No(Verdict),
@@ -61,7 +61,7 @@ pub enum Outcome {
     UnknownLetter { word: u64, place: u64 },
     /// The file in this role has more than 16,777,216 bytes.
     FileTooLong(Role),
-    /// Two kept answers that no one machine gives.
+    /// Two recorded answers that no one machine agrees with.
     Nondeterministic(Clash),
     NoMemory,
     /// No child was started, for this cause.
@@ -76,7 +76,7 @@ pub enum Outcome {
     BadAsk(u32),
     /// These words, one more than the limit of states, are pairwise apart.
     TooManyStates(Words),
-    /// The suite of a model of so many states may have this size.
+    /// The suite of a model of this many states may have this size.
     SuiteTooLarge { states: u16, number: u64 },
     /// The file in this role could not be read or written.
     FileFault(Role),

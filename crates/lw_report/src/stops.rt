@@ -1,5 +1,5 @@
 //! What comes of a file that was not read, a child that was not started, and a system or a learning that stopped; and why an
-//! outcome was not told.
+//! outcome was not reported.
 ghost use Rattle.std.specs.Prelude.{◌≡◌};
 ghost use Rattle.lw_report.specs.Learnings.{ask_outcome, learn_outcome, system_outcome};
 ghost use Rattle.lw_report.specs.Stops.{acceptor_outcome, no_acceptor_outcome, no_system_outcome, read_outcome, role_of, start_outcome, unread_outcome};
@@ -13,7 +13,7 @@ use lw_rounds::LearnStop;
 use lw_system::{AcceptorStop, NoSystem, ReadStop, Source, SystemStop};
 use lw_words::{NoMemory, SulStop};
 
-/// Why an outcome was not told.
+/// Why an outcome was not reported.
 #[derive(Clone, Copy, Debug, PartialEq, Eq)]
 pub enum TellStop {
     /// The file in this role could not be written.
@@ -23,7 +23,7 @@ pub enum TellStop {
     NoMemory,
 }
 
-/// What a file in this role comes to that was not read.
+/// The outcome of a file in this role that was not read.
 pub fn read_outcome(stop: ReadStop<JsonFault>, role: Role) -> Outcome
     ensures { result ≡ read_outcome role stop }
 {
@@ -45,14 +45,14 @@ fn role_of(file: Source) -> Role
     }
 }
 
-/// What files come to that say no system.
+/// The outcome of files that say no system.
 pub fn unread_outcome(stop: SystemStop) -> Outcome
     ensures { result ≡ unread_outcome stop }
 {
     read_outcome(stop.stop, role_of(stop.file))
 }
 
-/// What an acceptor file in this role comes to that was not read.
+/// The outcome of an acceptor file in this role that was not read.
 pub fn acceptor_outcome(stop: ReadStop<AcceptorFault>, role: Role) -> Outcome
     ensures { result ≡ acceptor_outcome role stop }
 {
@@ -64,7 +64,7 @@ pub fn acceptor_outcome(stop: ReadStop<AcceptorFault>, role: Role) -> Outcome
     }
 }
 
-/// What files come to that say no system that is asked for an acceptor.
+/// The outcome of files that say no system that is asked for an acceptor.
 pub fn no_acceptor_outcome(stop: AcceptorStop) -> Outcome
     ensures { result ≡ no_acceptor_outcome stop }
 {
@@ -76,7 +76,7 @@ pub fn no_acceptor_outcome(stop: AcceptorStop) -> Outcome
     }
 }
 
-/// What files come to that say no system, by what is to be learned of it.
+/// The outcome of files that say no system, by what is to be learned of it.
 pub fn no_system_outcome(stop: NoSystem) -> Outcome
     ensures { result ≡ no_system_outcome stop }
 {
@@ -86,7 +86,7 @@ pub fn no_system_outcome(stop: NoSystem) -> Outcome
     }
 }
 
-/// What a start comes to that gave no child.
+/// The outcome of a start that gave no child.
 pub fn start_outcome<P: Spawner>(spawner: &P, stop: StartStop) -> Outcome
     ensures { result ≡ start_outcome (P.state spawner.now).cause stop }
 {
@@ -133,7 +133,7 @@ impl From<Failed> for TellStop {
     }
 }
 
-/// What a system comes to that stopped so, by its instance.
+/// The outcome of a system that stopped so, by its instance.
 pub fn system_outcome(instance: u32, stop: SulStop) -> Outcome
     ensures { result ≡ system_outcome instance stop }
 {
@@ -144,7 +144,7 @@ pub fn system_outcome(instance: u32, stop: SulStop) -> Outcome
     }
 }
 
-/// What an ask comes to that stopped so.
+/// The outcome of an ask that stopped so.
 fn ask_outcome(stop: AskStop) -> Outcome
     ensures { result ≡ ask_outcome stop }
 {
@@ -155,7 +155,7 @@ fn ask_outcome(stop: AskStop) -> Outcome
     }
 }
 
-/// What a learning comes to that stopped so.
+/// The outcome of a learning that stopped so.
 pub fn learn_outcome(stop: LearnStop) -> Outcome
     ensures { result ≡ learn_outcome stop }
 {

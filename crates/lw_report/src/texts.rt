@@ -77,14 +77,14 @@ fn put_word_line(text: &mut String, word: &[u16], names: Option<&Names>) -> Resu
     Ok(())
 }
 
-/// The line about a crowd of so many words.
+/// The line about this many pairwise apart words.
 fn count_text(alloc: Global, count: usize) -> Result<String, NoMemory>
     ensures { IfOk result (λ text. string_bytes text ≡ crowd_line count) }
 {
     Ok(format!(in alloc; "too many states: {count} words are pairwise apart\n")?)
 }
 
-/// The words of a crowd, a line each, below their number.
+/// Pairwise apart words, a line each, below their number.
 fn crowd_text(alloc: Global, words: &Words, names: Option<&Names>) -> Result<String, NoMemory>
     ensures { IfOk result (λ text. string_bytes text ≡
         crowd_lines (names_of (option_map (λ n. n.now) names.entry)) words.now) }
@@ -234,7 +234,7 @@ pub fn outcome_text(
 }
 
 /// The text of an outcome, where the letters and outputs have these names, these answers are kept, and a model is sure up to
-/// so many extra states.
+/// this many extra states.
 pub fn text(
     alloc: Global,
     outcome: &Outcome,

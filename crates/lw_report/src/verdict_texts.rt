@@ -1,4 +1,4 @@
-//! The texts about a model and kept answers.
+//! The texts about a model and recorded answers.
 ghost use Rattle.std.specs.Prelude.{◌≡◌, ◌++◌, length, codes, IfOk, OnOk, Some, option_map, slice_get, string_bytes};
 ghost use Rattle.lw_report.specs.Text.{alike_line, clash_lines, differs_line, names_of, no_line, run_line, suite_line, unreached_line, yes_line};
 
@@ -31,7 +31,7 @@ fn missing_text(alloc: Global, word: &Word, names: Option<&Names>) -> Result<Str
     Ok(text)
 }
 
-/// The line about an answer that the model doesn't give.
+/// The line about an answer that the model disagrees with.
 fn differs_text(alloc: Global, answer: usize, place: usize) -> Result<String, NoMemory>
     ensures { IfOk result (λ text. string_bytes text ≡ differs_line answer place) }
 {
@@ -110,7 +110,7 @@ fn put_answer(
     Ok(())
 }
 
-/// The lines about two answers that no one machine gives.
+/// The lines about two answers that no one machine agrees with.
 pub(crate) fn clash_text(
     alloc: Global,
     clash: Clash,

@@ -15,7 +15,7 @@ use Rattle.lw_rounds.specs.declared.learner.Learner.{Learner}
 use Rattle.lw_rounds.specs.declared.stops.LearnStop.{LearnStop}
 use Rattle.lw_rounds.specs.declared.stops.LearnStop.TheVariants as learn
 
--- the model is canonical and gives the answers, and they fix it among all machines of at most k states more
+-- the model is canonical and agrees with the answers, and they fix it among all machines of at most k states more
 pub record IsCertified (a b k : ℕ) (ks : List Answer) (model : MealyMachine) : Type 0 where
   pub inputs : model.inputs ≡ a
   pub outputs : model.outputs ≡ b
@@ -29,7 +29,7 @@ abbrev pub IsEnoughFor : Method → ℕ → ℕ → List Answer → MealyMachine
 IsEnoughFor method a k ks model = IsVerdict method a model.rows ks k verdict.Sure
 
 -- the learner is of the kind that was asked for; it is closed, a tree without temporary nodes; the rows are the canonical form
--- of its machine, and its access words are a crowd of as many words
+-- of its machine, and its access words, as many as its states, are pairwise apart
 pub record IsReadOff (kind : Kind) (a b most : ℕ) (ks : List Answer) (rows : Rows) (l : Learner) : Type 0 where
   pub of_kind : kind_of l ≡ kind
   pub inputs : inputs_of l ≡ a
@@ -56,8 +56,9 @@ pub record IsTooMany (most : ℕ) (ks : List Answer) (words : List (List ℕ)) :
   pub count : length words ≡ most + 1
   pub crowd : IsCrowd ks words
 
--- a canonical model of no more states than there may be that gives the answers, of which a crowd of as many words shows that no machine of fewer states does;
--- and the size of its suite, which is above the greatest
+-- a canonical model of no more states than there may be that agrees with the answers; words that are pairwise apart, as
+-- many as its states, which show that no machine of fewer states does; and the size of its suite, which is above the
+-- greatest
 pub record IsTooLarge (a b k most : ℕ) (ks : List Answer) (model : MealyMachine) (number : ℕ) : Type 0 where
   pub inputs : model.inputs ≡ a
   pub outputs : model.outputs ≡ b

@@ -1,7 +1,7 @@
 -- The ranges of the numbers of a learning.
 use Rattle.std.specs.Prelude.{ℕ, ◌≤◌}
 
--- so many workers, extra states and greatest number of states
+-- this many workers, extra states and greatest number of states
 pub record AreInRange (workers extra most : ℕ) : Type 0 where
   pub some_worker : 1 ≤ workers
   pub few_workers : workers ≤ 16

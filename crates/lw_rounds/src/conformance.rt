@@ -17,7 +17,7 @@ use lw_words::Word;
 use std::alloc::Global;
 
 #[tactic(auto, using(lw_cache::proofs::SettlingLemmas::leaves_settled))]
-/// Settles some words, and tells the shortest front of the first of them on which the hypothesis differs.
+/// Settles some words, and tells the shortest prefix of the first of them on which the hypothesis differs.
 fn settle_words<O: Oracle>(
     oracle: &mut O,
     hypothesis: &Mealy,

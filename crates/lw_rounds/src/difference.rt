@@ -10,7 +10,7 @@ use lw_cache::Cache;
 use lw_mealy::Mealy;
 use lw_words::{Kept, NoMemory, Word};
 
-/// The shortest front of a known word on which the model differs from what is read.
+/// The shortest prefix of a known word on which the model differs from what is read.
 fn shortest_difference(cache: &Cache, model: &Mealy, word: &Word) -> Result<Option<Word>, NoMemory>
     requires answers { All (λ k. IsAnswer model.now.inputs (answer_of k)) cache.now.kept }
     requires known { IsKnown (answers_of cache.now.kept) word.now }
@@ -44,7 +44,7 @@ pub fn first_difference(
     Ok(None)
 }
 
-/// Whether the model gives each kept answer from one on. Takes no memory.
+/// Whether the model agrees with each recorded answer from one on. Takes no memory.
 pub fn gives_from(kept: &Kept, from: usize, model: &Mealy) -> bool
     requires from { from ≤ length kept.now.answers }
     requires answers { All (λ k. IsAnswer model.now.inputs (answer_of k)) kept.now.answers }

@@ -27,7 +27,7 @@ use lw_words::{NoMemory, Word};
 use lw_wp::{HSuite, WpSuite};
 use std::alloc::Global;
 
-/// What a test comes to.
+/// The result of a test.
 #[derive(Drop)]
 pub enum Tested {
     /// The hypothesis differs on this word, which is known.
@@ -36,7 +36,7 @@ pub enum Tested {
     Sure(Mealy),
 }
 
-/// A model that the kept answers suffice for, once `certify` has said so.
+/// A model that the recorded answers suffice for, once `certify` has said so.
 fn certified(
     alloc: Global,
     model: Mealy,
@@ -99,7 +99,7 @@ fn settle_and_certify<O: Oracle, S: Chunks, W: Watcher>(
     }
 }
 
-/// What a model without a suite comes to.
+/// The result of a model without a suite.
 fn without_suite(model: Mealy, fault: SuiteFault) -> LearnStop
     ensures { result ≡ of_fault model fault }
 {
@@ -157,8 +157,8 @@ fn test_with<O: Oracle, S: Chunks + Drop, W: Watcher>(
 }
 
 #[tactic(auto, using(lw_cache::proofs::SettlingLemmas::leaves_nothing, crate::proofs::StopLemmas::leaves_learn_own))]
-/// Tests the machine of a learner, which gives the kept answers, by the suite of its canonical form. No node of a tree is
-/// temporary then.
+/// Tests the machine of a learner, which agrees with the recorded answers, by the suite of its canonical form. No node
+/// of a tree is temporary then.
 pub fn test_by_suite<O: Oracle, W: Watcher>(
     oracle: &mut O,
     alloc: Global,

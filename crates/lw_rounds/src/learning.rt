@@ -43,17 +43,17 @@ fn learn_from<O: Oracle, W: Watcher>(
 }
 
 #[tactic(auto, using(lw_cache::proofs::SettlingLemmas::leaves_nothing, crate::proofs::StopLemmas::leaves_learn_own))]
-/// A model of the system behind an oracle, which every machine of at most the extra states more that gives the kept answers
-/// equals: a learner of the kind is closed and its machine tested, until nothing known and no word of its suite tells it
-/// apart (Angluin 1987, or Isberner, Howar and Steffen 2014, with a suite that is made as the settings say, as that of
-/// Vasilevskii 1973 and Chow 1978).
+/// A model of the system behind an oracle, which every machine of at most the extra states more that agrees with the
+/// recorded answers equals: a learner of the kind is closed and its machine tested, until nothing known and no word of
+/// its suite tells it apart (Angluin 1987, or Isberner, Howar and Steffen 2014, with a suite that is made as the
+/// settings say, as that of Vasilevskii 1973 and Chow 1978).
 ///
 /// The watcher is told of the first closing, of each chunk of a suite, of each refinement with the closing that it makes, and of
 /// each settling that replaced a block.
 ///
 /// # Errors
-/// What the oracle stopped by, or out of memory; a crowd of one word more than there may be states; or the canonical model whose suite would
-/// be too large.
+/// What the oracle stopped by, or out of memory; pairwise apart words, one more than there may be states; or the
+/// canonical model whose suite would be too large.
 pub fn learn<O: Oracle, W: Watcher>(
     oracle: &mut O,
     alloc: Global,

@@ -46,7 +46,8 @@ fn refine<O: Oracle, W: Watcher>(
     Ok(())
 }
 
-/// The end of a round: the machine of a learner gives what is known, no node of a tree is temporary, and its suite is tested.
+/// The end of a round: the machine of a learner agrees with what is known, no node of a tree is temporary, and its
+/// suite is tested.
 fn round_by_suite<O: Oracle, W: Watcher>(
     oracle: &mut O,
     alloc: Global,

@@ -28,7 +28,7 @@ pub struct Step {
     pub states: u16,
     /// The answers that were gained in it.
     pub asked: usize,
-    /// The kept answers now.
+    /// The recorded answers now.
     pub known: usize,
     /// How often the learner was refined until now.
     pub refinements: u32,
@@ -48,7 +48,7 @@ impl Watcher for Unwatched {
     fn step(&mut self, _: Step) {}
 }
 
-/// The number of an oracle's kept answers.
+/// The number of an oracle's recorded answers.
 fn known<O: Oracle>(oracle: &O) -> usize {
     oracle.cache().kept().len()
 }

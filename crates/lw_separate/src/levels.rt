@@ -12,7 +12,7 @@ use lw_mealy::Mealy;
 use lw_words::NoMemory;
 use std::alloc::Global;
 
-/// The classes of states by the words of at most so many letters: each is named by its least state.
+/// The classes of states by the words of at most this many letters: each is named by its least state.
 #[derive(Drop)]
 pub struct Levels {
     /// By the words of at most 0, 1, 2 letters and so on, as long as one letter more splits a class.
@@ -122,7 +122,7 @@ pub fn fill_levels(alloc: Global, m: &Mealy) -> Result<Levels, NoMemory>
     Ok(Levels { below, names })
 }
 
-/// The classes by the words of at most so many letters.
+/// The classes by the words of at most this many letters.
 pub fn classes_at(levels: &Levels, letters: usize) -> &[u16]
     requires { letters < length levels.now.below.items }
     ensures { result.now ≡ slice_index_or (map (λ r. r.items) levels.now.below.items) letters [] }

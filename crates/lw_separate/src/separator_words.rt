@@ -19,7 +19,7 @@ use std::alloc::Global;
 /// What the walk over the pairs of states reads.
 #[derive(Drop)]
 struct Tables {
-    /// The classes of states by the words of at most so many letters.
+    /// The classes of states by the words of at most this many letters.
     levels: Levels,
     /// The targets and outputs of all states at each letter.
     columns: Vec<Vec<(u16, u16)>>,

@@ -9,6 +9,6 @@ abbrev pub read_of : List ℕ → Outcome → Call
 read_of model (FileFault role) = read_call model true
 read_of model _ = read_call model false
 
--- the calls of a call of `serve` that came to the outcome: the read, or none where memory ran out first
+-- the calls of a call of `serve` that ended with the outcome: the read, or none where memory ran out first
 abbrev pub MadeCalls : List ℕ → Outcome → Option (List Call) → Option (List Call) → Type 0
 MadeCalls model outcome before now = ((outcome ≡ NoMemory) × (now ≡ before)) ⊎ (now ≡ noted (read_of model outcome) before)

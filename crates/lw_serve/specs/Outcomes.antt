@@ -7,7 +7,7 @@ use Rattle.lw_report.specs.declared.outcome.Outcome.{Outcome}
 use Rattle.lw_report.specs.declared.outcome.Outcome.TheVariants.{Served, BadFile, FileTooLong, NoMemory, BadAsk, FileFault, SourceFault, SinkFault}
 use Rattle.lw_report.specs.declared.role.Role.TheVariants.{Model}
 
--- what serving a machine comes to
+-- the outcome of serving a machine
 abbrev pub served_outcome : Result Done ServeFault → Outcome
 served_outcome (Ok served) = Served served
 served_outcome (Err fault.SourceFault) = SourceFault

@@ -10,8 +10,9 @@ use Rattle.lw_outside.specs.Streams.{SinkState, SourceState}
 use Rattle.lw_report.specs.declared.outcome.Outcome.{Outcome}
 use Rattle.lw_report.specs.declared.outcome.Outcome.TheVariants.{Served, NoMemory, BadAsk, SourceFault, SinkFault}
 
--- where the input is told, all answers of the machine's play on it were put, and the play ends so; where a stream failed, some
--- answers were put, from the front on; and memory ran out only for the text about a line that ended the play
+-- where the input is observed, all answers of the machine's play on it were put, and the play ends so; where a stream
+-- failed, some answers were put, from the first on; and memory ran out only for the text about a line that ended the
+-- play
 abbrev pub PlaysTo : Machine → Option (List ℕ) → Outcome → Option (List ℕ) → Option (List ℕ) → Type 0
 PlaysTo m input (Served served) before now = Plays m input (Ok served) before now
 PlaysTo m input (BadAsk number) before now = Plays m input (Err (fault.BadLine number)) before now
@@ -20,7 +21,7 @@ PlaysTo m input SourceFault before now = Plays m input (Err fault.SourceFault) b
 PlaysTo m input SinkFault before now = Plays m input (Err fault.SinkFault) before now
 PlaysTo m input _ before now = ⊥
 
--- a machine was played over an input and `out`, and this is what it came to
+-- a machine was played over an input and `out`, and this is how that ended
 pub record IsPlayed (m : Machine) (input_before input_now : SourceState) (out_before out_now : SinkState) (outcome : Outcome) : Type 0 where
   pub plays : PlaysTo m input_before.left outcome out_before.taken out_now.taken
   pub source : outcome ≡ SourceFault → CountedFault input_before.faults input_now.faults × GoesOn m input_before.left input_now.left

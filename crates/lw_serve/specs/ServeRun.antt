@@ -56,8 +56,8 @@ pub record IsServeRun (model : List ℕ) (files_before files_now : FilesState) (
   pub file_fault : (role : Role) → end.outcome ≡ FileFault role → (role ≡ Model) ×
       CountedFault files_before.faults files_now.faults × (files_now.reads ≡ files_before.reads)
   pub file_fault_told : TellsFailed model files_before.calls files_now.calls → end.outcome ≡ FileFault Model
-  -- where a machine's file is told and nothing outside counted a fault, the machine is played to the end or to a bad line, or
-  -- memory runs out
+  -- where a machine's file is observed and nothing outside counted a fault, the machine is played to the end or to a
+  -- bad line, or memory runs out
   pub untroubled :
       TellsMachine files_before.holds model
       → ¬ CountedFault files_before.faults files_now.faults

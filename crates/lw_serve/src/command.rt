@@ -18,7 +18,7 @@ use lw_system::{ReadStop, read_machine_file};
 use lw_words::Kept;
 use std::alloc::Global;
 
-/// What serving a machine comes to.
+/// The outcome of serving a machine.
 fn played_outcome(served: Result<Served, ServeFault>) -> Outcome
     ensures { result ≡ served_outcome served }
 {

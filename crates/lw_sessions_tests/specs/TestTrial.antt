@@ -1,4 +1,4 @@
--- How the actors of a trial stand, for tests.
+-- The states of the actors of a trial, for tests.
 use Rattle.std.specs.Prelude.{◌≡◌, ℕ, ◌<◌, List, [], length, slice_index_or, Bool, false, is_some}
 use Rattle.lw_turn.specs.History.{entries_of}
 use Rattle.lw_names.specs.Naming.{own_names}

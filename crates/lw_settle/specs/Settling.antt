@@ -21,7 +21,7 @@ pub record IsParted (t : TreeState) (m : Rows) (r letter : ℕ) : Type 0 where
   pub other_member : IsMember t r other
   pub parts : (output m one letter ≢ output m other letter) ⊎ ¬ (AreOfOneClass t (next m one letter) (next m other letter))
 
--- while a node is temporary, and the tree's machine gives the answers, some letter parts some block
+-- while a node is temporary, and the tree's machine agrees with the answers, some letter parts some block
 abbrev pub SomeBlockIsParted : Type 0
 SomeBlockIsParted = (ks : List Answer) (t : TreeState) (m : Rows) → IsTree t → BranchesAreRead ks t → IsClosed t → IsMachineOf t m → Gives m ks → 0 < temporaries t.nodes → (r letter : ℕ) × IsParted t m r letter
 

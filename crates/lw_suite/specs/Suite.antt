@@ -1,4 +1,4 @@
--- The suite of the W-method: words that tell a machine from every other of at most so many states more.
+-- The suite of the W-method: words that tell a machine from every other of at most this many states more.
 -- Source: Vasilevskii (1973) and Chow (1978); the order of the words is this project's.
 use Rattle.std.specs.Prelude.{◌≡◌, ℕ, ◌+◌, ◌≤◌, List, length}
 use Rattle.std.specs.List.{All}

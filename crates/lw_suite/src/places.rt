@@ -29,7 +29,7 @@ pub(crate) fn number(parts: &Parts, place: Place) -> u64
     place.front * (1 + parts.ends.len() as u64) + place.end as u64
 }
 
-/// Makes a word the front with this number: an access word and a middle word.
+/// Makes a word the prefix with this number: an access word and a middle word.
 fn spell_front(parts: &Parts, front: &mut Word, number: u64) -> Result<(), NoMemory>
     requires { number < length parts.now.access * parts.now.middles }
     ensures { OnOk result (front.new ≡ slice_index_or (fronts parts.now) number []) }
@@ -41,7 +41,7 @@ fn spell_front(parts: &Parts, front: &mut Word, number: u64) -> Result<(), NoMem
     Ok(())
 }
 
-/// The front at a place, and the empty word past the last one.
+/// The prefix at a place, and the empty word past the last one.
 pub(crate) fn front_at(parts: &Parts, front: &mut Word, place: Place) -> Result<(), NoMemory>
     ensures { OnOk result (IsFront parts.now place front.new) }
 {
@@ -51,7 +51,7 @@ pub(crate) fn front_at(parts: &Parts, front: &mut Word, place: Place) -> Result<
     Ok(())
 }
 
-/// Goes to the next place, and makes the word its front.
+/// Goes to the next place, and makes the word its prefix.
 pub(crate) fn step(parts: &Parts, place: Place, front: &mut Word) -> Result<Place, NoMemory>
     requires place { IsPlace parts.now place }
     requires more { place.front < length parts.now.access * parts.now.middles }

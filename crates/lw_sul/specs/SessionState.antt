@@ -16,24 +16,24 @@ run_of w o = record { word = w; outs = o }
 abbrev pub runs_of_pairs : List (List ℕ × List ℕ) → List Run
 runs_of_pairs pairs = map (λ p. run_of p.0 p.1) pairs
 
--- told runs that are none
+-- observed runs that are none
 abbrev pub NoRuns : Option (List Run) → Type 0
 NoRuns None = Unit {0}
 NoRuns (Some rs) = rs ≡ []
 
--- the front of a run of the word, with a letter less at least
+-- a prefix of a run of the word, at least a letter shorter
 pub record IsUnfinished (w : List ℕ) (r : Run) : Type 0 where
   pub short : length r.word < length w
   pub front : IsPrefix r.word w
   pub outs : length r.outs ≡ length r.word
 
--- told runs where a run of the word was refused: as before, or with one unfinished run more where it was cut off
+-- observed runs where a run of the word was refused: as before, or with one unfinished run more where it was cut off
 abbrev pub CutOff : List ℕ → Option (List Run) → Option (List Run) → Bool → Type 0
 CutOff w None new cut = new ≡ None
 CutOff w (Some rs) new false = new ≡ Some rs
 CutOff w (Some rs) new true = (r : Run) × IsUnfinished w r × (new ≡ Some (rs ++ r ∷ []))
 
--- told runs are the journal, followed by one unfinished run exactly where a stop cut a run off
+-- observed runs are the journal, followed by one unfinished run exactly where a stop cut a run off
 abbrev pub IsJournal : Option (List Run) → List Run → Option SulStop → Bool → Type 0
 IsJournal None journal stop cut = Unit {0}
 IsJournal (Some rs) journal None cut = rs ≡ journal

@@ -9,10 +9,10 @@ use Rattle.lw_sul.specs.Runs.{after_reset, after_step}
 use Rattle.lw_sul.specs.Told.{Starts, Steps}
 use Rattle.lw_sul.specs.declared.runs.Run.{Run}
 
--- the numbers of inputs and of outputs; where its runs come from; the state of a told machine that it is in; whether a reset was
--- answered Ok; how often it failed; the refusal of its last call, or None where that was answered Ok or there was none; whether
--- that refusal cut a run off, as that of a step does and that of a reset doesn't; its runs, where they are told; the names of
--- its outputs so far, by number, and how many there can be
+-- the numbers of inputs and of outputs; where its runs come from; the state of an observed machine that it is in;
+-- whether a reset was answered Ok; how often it failed; the refusal of its last call, or None where that was answered
+-- Ok or there was none; whether that refusal cut a run off, as that of a step does and that of a reset doesn't; its
+-- runs, where they are observed; the names of its outputs so far, by number, and how many there can be
 pub record SulState : Type 0 where
   pub inputs : ℕ
   pub outputs : ℕ

@@ -72,7 +72,7 @@ fn make_room<S: Sul>(alloc: Global, w: &Word, sul: &S) -> Result<Buffers, NoMemo
     })
 }
 
-/// Puts the name of an output last where it came up in the last step, before which so many outputs had names.
+/// Puts the name of an output last where it came up in the last step, before which this many outputs had names.
 #[tactic(auto, using(lw_names::proofs::NameLemmas::note_steps))]
 fn note<S: Sul>(sul: &S, known: u16, y: u16, names: &mut Vec<OutName>)
     requires one { (length (S.state sul.now).names ≡ known) ⊎
@@ -158,7 +158,7 @@ impl<S: Sul> Session<S> {
     pub fn ask(&mut self, w: &Word) -> Result<Word, RunStop>
         requires letters { IsWord (S.state self.old.sul).inputs w.now }
 
-        // An answer is the run that the journal gains, and the machine's where that is told.
+        // An answer is the run that the journal gains, and the machine's where that is observed.
         ensures length { IfOk result (λ o. length o ≡ length w.now) }
         ensures outputs { IfOk result (All (λ y. y < (S.state self.old.sul).outputs)) }
         ensures gains { IfOk result (λ o. self.new.journal ≡ self.old.journal ++
@@ -178,7 +178,8 @@ impl<S: Sul> Session<S> {
         ensures failed { result ≡ Err (RunStop.Sul Stop.Failed) → (S.state self.old.sul).stop ≡
             None → CountedFault (S.state self.old.sul).faults (S.state self.new.sul).faults }
 
-        // Told runs are the journal, and an unfinished run exactly where this call or an earlier one was stopped in a step.
+        // Observed runs are the journal, and an unfinished run exactly where this call or an earlier one was stopped in
+        // a step.
         ensures told { IsJournal (S.state self.new.sul).runs self.new.journal
             (S.state self.new.sul).stop (S.state self.new.sul).cut }
 
@@ -200,7 +201,7 @@ impl<S: Sul> Session<S> {
     pub fn ask_named(&mut self, w: &Word) -> Result<NamedAnswer, RunStop>
         requires letters { IsWord (S.state self.old.sul).inputs w.now }
 
-        // An answer is the run that the journal gains, and the machine's where that is told.
+        // An answer is the run that the journal gains, and the machine's where that is observed.
         ensures length { IfOk result (λ a. length a.outs ≡ length w.now) }
         ensures outputs { IfOk result (λ a. All (λ y. y < (S.state self.old.sul).outputs)
             a.outs) }
@@ -222,7 +223,7 @@ impl<S: Sul> Session<S> {
         ensures failed { result ≡ Err (RunStop.Sul Stop.Failed) → (S.state self.old.sul).stop ≡
             None → CountedFault (S.state self.old.sul).faults (S.state self.new.sul).faults }
 
-        // Told runs are the journal, and an unfinished run exactly where a call was stopped in a step.
+        // Observed runs are the journal, and an unfinished run exactly where a call was stopped in a step.
         ensures told { IsJournal (S.state self.new.sul).runs self.new.journal
             (S.state self.new.sul).stop (S.state self.new.sul).cut }
 

@@ -59,7 +59,7 @@ pub record HasReadSystem (kind : Source) (name : List ℕ) (files_before files_n
   pub same : files_now.holds ≡ files_before.holds
   pub counts : files_before.faults ≤ files_now.faults
 
--- and what is told of it: the hint at it
+-- and what is reported of it: the hint at it
 pub record HasFound (kind : Source) (name : List ℕ) (files_before files_now : FilesState) (result : Result System SystemStop) (hint : List ℕ) : Type 0 where
   pub read : HasReadSystem kind name files_before files_now result
   pub told : OnOk result (HasHint kind name files_before.reads files_now.reads hint)

@@ -41,12 +41,12 @@ pub record HasRead {V F : Type 0} (IsFile : List ℕ → V → Type 0) (HasFirst
   pub counts : before.faults ≤ now.faults
   pub same : now.holds ≡ before.holds
 
--- it is told that the file of this value stands under the name, and it isn't too long
+-- it is observed that the file of this value stands under the name, and it isn't too long
 abbrev pub TellsFile : {V : Type 0} → (List ℕ → V → Type 0) → Option (List File) → List ℕ → V → Type 0
 TellsFile IsFile None name v = ⊥
 TellsFile IsFile (Some fs) name v = (bytes : List ℕ) × (file_at name fs ≡ Some bytes) × (length bytes ≤ longest_file) × IsFile bytes v
 
--- it is told that a file that is too long, or of no value, stands under the name
+-- it is observed that a file that is too long, or of no value, stands under the name
 abbrev pub TellsBad : {V : Type 0} → (List ℕ → V → Type 0) → Option (List File) → List ℕ → Type 0
 TellsBad IsFile None name = ⊥
 TellsBad IsFile (Some fs) name = (bytes : List ℕ) × (file_at name fs ≡ Some bytes) × ((longest_file < length bytes) ⊎ ((v : _) → ¬ IsFile bytes v))

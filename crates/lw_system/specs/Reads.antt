@@ -6,7 +6,7 @@ use Rattle.lw_system.specs.Reading.{ReadsBadFile}
 use Rattle.lw_system.specs.declared.stops.ReadStop.{ReadStop}
 use Rattle.lw_system.specs.declared.stops.ReadStop.TheVariants as stop
 
--- told calls, and these
+-- observed calls, and these
 abbrev pub gained : List Call → Option (List Call) → Option (List Call)
 gained more calls = option_map (λ cs. cs ++ more) calls
 

@@ -1,4 +1,4 @@
--- What is told of a setup file that was read.
+-- What is reported of a setup file that was read.
 use Rattle.std.specs.Prelude.{◌≡◌, ℕ, List, ◌∷◌, ◌++◌, Result, Ok, Err}
 use Rattle.serde_json.specs.Data.{Data}
 use Rattle.lw_json.specs.Formats.{IsJson}

@@ -6,7 +6,7 @@ use Rattle.lw_outside.specs.Links.{IsUntouched, LinkState, SpawnerState}
 use Rattle.lw_outside.specs.declared.links.StartStop.{StartStop}
 use Rattle.lw_outside.specs.declared.links.StartStop.TheVariants as start
 
--- told commands of starts, and the same one so many times
+-- observed commands of starts, and the same one this many times
 abbrev pub with_starts : ℕ → List (List ℕ) → Option (List (List (List ℕ))) → Option (List (List (List ℕ)))
 with_starts n words commands = option_map (λ cs. cs ++ replicate n words) commands
 
@@ -23,7 +23,7 @@ pub record StartsAndRetires (words : List (List ℕ)) (before now : SpawnerState
   pub each : (starts ≡ length links) ⊎ ((starts ≡ length links + 1) ×
       CountedFault before.faults now.faults)
 
--- so many links were started by the words, no start failed, and none was retired
+-- this many links were started by the words, no start failed, and none was retired
 pub record StartsLinks (words : List (List ℕ)) (before now : SpawnerState) (links : ℕ) : Type 0 where
   pub started : now.started ≡ before.started + links
   pub retired : now.retired ≡ before.retired

@@ -25,7 +25,7 @@ abbrev pub AreFinished : (cut : Bool) (runs finished : List Run) → Type 0
 AreFinished false runs finished = runs ≡ finished
 AreFinished true runs finished = (r : Run) × (runs ≡ finished ++ r ∷ [])
 
--- where the transcript of a link is told, it is such a one
+-- where the transcript of a link is observed, it is such a one
 abbrev pub IfTold : (Transcript → Type 0) → Option Transcript → Type 0
 IfTold P None = Unit {0}
 IfTold P (Some t) = P t

@@ -42,7 +42,7 @@ TellsCrowd ks now result = (words : List (List ℕ)) → result ≡ Err (Crowd w
 abbrev pub IsWordOfRow : ℕ → List (List ℕ) → List ℕ → Type 0
 IsWordOfRow a access w = (w ≡ []) ⊎ ((q : ℕ) × (x : ℕ) × (q < length access) × (x < a) × (w ≡ word_at access q ++ x ∷ []))
 
--- the word of a cell, over so many letters, by the access words and the suffixes: that of a row, followed by a suffix
+-- the word of a cell, over this many letters, by the access words and the suffixes: that of a row, followed by a suffix
 pub record IsCellWord (a : ℕ) (access suffixes : List (List ℕ)) (w : List ℕ) : Type 0 where
   pub row : List ℕ
   pub suffix : List ℕ

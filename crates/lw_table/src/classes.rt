@@ -84,7 +84,7 @@ impl Classes {
         Ok(self.steps.len())
     }
 
-    /// The outputs of the first cells of a row of so many cells, each of which has one.
+    /// The outputs of the first cells of a row of this many cells, each of which has one.
     pub(crate) fn singles(
         &self,
         class: usize,

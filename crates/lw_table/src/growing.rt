@@ -83,8 +83,9 @@ impl ObservationTable {
     /// is to the word of a cell.
     ///
     /// # Errors
-    /// The stop of the oracle, or out of memory; or the words of a crowd, where an access word more than may be would be
-    /// needed. The table stays as it was after the last access word that was added, and a later call goes on from there.
+    /// The stop of the oracle, or out of memory; or pairwise apart words, where an access word more than may be would
+    /// be needed. The table stays as it was after the last access word that was added, and a later call goes on from
+    /// there.
     pub fn close<O: Oracle>(&mut self, oracle: &mut O) -> Result<(), GrowStop>
         requires can { O.can_settle oracle.old }
         requires may { MayAsk (O.state oracle.old).stop }

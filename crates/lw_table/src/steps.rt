@@ -209,7 +209,7 @@ impl ObservationTable {
     }
 }
 
-/// Puts rows in the place of those from one on.
+/// Puts rows in place of those from one on.
 fn replace(rows: &mut Vec<Row>, first: usize, by: &[Row])
     requires { first + length by.now ≡ length rows.old.items }
     ensures { rows.new.items ≡ take first rows.old.items ++ by.now }

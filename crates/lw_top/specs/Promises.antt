@@ -53,8 +53,8 @@ use Rattle.lw_top.specs.Call.{CallValues, Learn, Check, Trial, Serve, Ask, Compa
 use Rattle.lw_top.specs.CheckCommand.{CheckValues}
 use Rattle.lw_top.specs.World.{WorldState}
 
--- a model is complete, minimal and in canonical form, and gives the answers; and every machine of at most k states more that
--- gives them equals it on all words
+-- a model is complete, minimal and in canonical form, and agrees with the answers; and every machine of at most k
+-- states more that agrees with them equals it on all words
 pub record ModelIsRight (k : ℕ) (ks : List Answer) (h : MealyMachine) : Type 0 where
   pub complete : IsWithinLimits h
   pub minimal : IsMinimal h.inputs h.rows
@@ -62,7 +62,7 @@ pub record ModelIsRight (k : ℕ) (ks : List Answer) (h : MealyMachine) : Type 0
   pub gives : Gives h.rows ks
   pub sure : Sure h.inputs h.rows ks k
 
--- the model that is told is the one that is handed back, and that is right by the kept answers
+-- the model that is reported is the one that is handed back, and that is right by the recorded answers
 pub record HandsModel (k : ℕ) (end : End) : Type 0 where
   pub told : (h : MealyMachine) (refinements : ℕ) → end.outcome ≡ Learned h refinements → end.model ≡ Some h
   pub right : IfSome end.model (ModelIsRight k (answers_of end.kept.answers))
@@ -78,8 +78,8 @@ LearnedIsRight (Some (Compare models)) end = end.model ≡ None
 LearnedIsRight (Some (Recheck a)) end = end.model ≡ None
 LearnedIsRight None end = end.model ≡ None
 
--- answers fix a model: the names of letters and outputs are the same, the model is minimal and gives the answers, and every machine
--- that gives them and has at most k states more than the model equals it on all words
+-- answers fix a model: the names of letters and outputs are the same, the model is minimal and agrees with the answers,
+-- and every machine that agrees with them and has at most k states more than the model equals it on all words
 pub record FixModel (m : Machine) (a : Answers) (k : ℕ) : Type 0 where
   pub inputs : a.inputs ≡ m.inputs
   pub outputs : a.outputs ≡ m.outputs
@@ -110,11 +110,12 @@ YesIsRight (Some (Check a)) before now outcome =
     (states : ℕ) → outcome ≡ Yes states → (fixes : AnswersFixModel a before now) × (states ≡ length fixes.model.mealy.rows)
 YesIsRight _ before now outcome = Unit {0}
 
--- a model, where there is one, has so many letters
+-- a model, where there is one, has this many letters
 abbrev pub IsOverLetters : ℕ → Option MealyMachine → Type 0
 IsOverLetters inputs model = IfSome model (λ h. h.inputs ≡ inputs)
 
--- the names of outputs by which a call's kept answers are numbered: those that were declared, and those that it hands back
+-- the names of outputs by which a call's recorded answers are numbered: those that were declared, and those that it
+-- hands back
 abbrev pub AreNamesOf : (declared : Option (List (List ℕ))) → (outputs : Option Naming) → List (List ℕ) → Type 0
 AreNamesOf declared outputs names = IfSome declared (λ own. names ≡ own) × IfSome outputs (λ naming. naming.names ≡ names)
 
@@ -140,8 +141,8 @@ pub record SaysTask (a : LearnValues) (before now : FilesState) (s : System) (pr
   pub task : ReadsTask a before.holds before.reads between s prior
   pub reads : now.reads ≡ between ++ more
 
--- the files said a system and earlier answers, and it was learned; the kept answers are these and its runs, and a model has its
--- letters
+-- the files said a system and earlier answers, and it was learned; the recorded answers are these and its runs, and a
+-- model has its letters
 pub record KeepsLearned (a : LearnValues) (before now : WorldState) (end : End) : Type 0 where
   pub system : System
   pub prior : List KeptAnswer
@@ -172,16 +173,18 @@ pub record AsksNothing (a : LearnValues) (before now : WorldState) (end : End) :
   pub unstarted : now.spawner ≡ before.spawner
   pub kept : KeepsPrior a before.files now.files end.kept.answers
 
--- the kept answers are the runs of the instances, behind those of a file of earlier answers, of `learn` and of `trial`
+-- the recorded answers are the runs of the instances, behind those of a file of earlier answers, of `learn` and of
+-- `trial`
 abbrev pub KeptAreRuns : Option CallValues → WorldState → WorldState → End → Type 0
 KeptAreRuns (Some (Learn a)) before now end = KeepsLearned a before now end ⊎ AsksNothing a before now end
 KeptAreRuns (Some (Trial a)) before now end = KeepsRuns (drawn_machine a) a.workers [] end.kept.answers × IsOverLetters a.inputs end.model
 KeptAreRuns _ before now end = Unit {0}
 
--- of the system that was learned: where no file, stream or start of a child failed, and some machine of n states that gives the
--- kept answers is within the limits, a model comes within n - 1 refinements, or memory runs out; of `accept` an acceptor comes
--- so, or that there is none. This is where each link counted no fault and no end, and tells that no line came over it that is
--- none; where none counted one, told or not, it is so too, or an instance said a bad line
+-- of the system that was learned: where no file, stream or start of a child failed, and some machine of n states that
+-- agrees with the recorded answers is within the limits, a model comes within n - 1 refinements, or memory runs out; of
+-- `accept` an acceptor comes so, or that there is none. This is where each link counted no fault and no end, and tells
+-- that no line came over it that is none; where none counted one, observed or not, it is so too, or an instance said a
+-- bad line
 pub record ReachesModel (a : LearnValues) (before now : WorldState) (end : End) : Type 0 where
   pub system : System
   pub prior : List KeptAnswer
@@ -206,9 +209,9 @@ ModelIsReached (Some (Trial a)) before now end =
     suite_size a.states a.inputs 1 ≤ greatest_suite → ¬ CountedFault before.out.faults now.out.faults → ¬ CountedFault before.err.faults now.err.faults → IsReachedTrial a.states end.outcome
 ModelIsReached _ before now end = Unit {0}
 
--- an acceptor that is told: the system that was learned has the letters `?` and the acceptor's, and the model is the machine in
--- the acceptor's place; the kept answers fix it among acceptors; and its text was put to `out`, or stands in the file that is
--- named for it
+-- an acceptor that is reported: the system that was learned has the letters `?` and the acceptor's, and the model is
+-- the machine in the acceptor's place; the recorded answers fix it among acceptors; and its text was put to `out`, or
+-- stands in the file that is named for it
 pub record TellsAcceptor (a : LearnValues) (before now : WorldState) (end : End) (states : ℕ) : Type 0 where
   pub acceptor : NamedAcceptor
   pub named : IsNamedAcceptor acceptor
@@ -223,7 +226,7 @@ pub record TellsAcceptor (a : LearnValues) (before now : WorldState) (end : End)
   pub stands : a.model ≢ a.answers → StandsInFile a.model now.files.holds (acceptor_written acceptor)
 
 -- that there is no acceptor: the pair is the first of the model that no acceptor's machine has, and each acceptor whose machine
--- gives the kept answers has more than k states more than the model
+-- agrees with the recorded answers has more than k states more than the model
 pub record TellsNoAcceptor (a : LearnValues) (end : End) (state letter : ℕ) : Type 0 where
   pub model : MealyMachine
   pub model_is : end.model ≡ Some model
@@ -233,23 +236,24 @@ pub record TellsNoAcceptor (a : LearnValues) (end : End) (state letter : ℕ) : 
   pub larger : (m : Automaton) → IsAcceptor letters m → Gives (viewed m) (answers_of end.kept.answers) →
       length model.rows + a.extra < length m.targets
 
--- an acceptor, or that there is none, is told only where one is to be learned, and is so
+-- an acceptor, or that there is none, is reported only where one is to be learned, and is so
 pub record AcceptorIsRight (a : LearnValues) (before now : WorldState) (end : End) : Type 0 where
   pub told : (states refinements : ℕ) → end.outcome ≡ Accepted states refinements →
       (a.goal ≡ aim.Acceptor) × TellsAcceptor a before now end states
   pub none : (state letter : ℕ) → end.outcome ≡ NotAcceptor state letter →
       (a.goal ≡ aim.Acceptor) × TellsNoAcceptor a end state letter
 
--- neither an acceptor is told nor that there is none
+-- neither an acceptor is reported nor that there is none
 abbrev pub TellsNeither : Outcome → Type 0
 TellsNeither outcome = ((states refinements : ℕ) → ¬ (outcome ≡ Accepted states refinements)) × ((state letter : ℕ) → ¬ (outcome ≡ NotAcceptor state letter))
 
--- an acceptor that is told is right, and so is that there is none; no command but `accept` tells either
+-- an acceptor that is reported is right, and so is that there is none; no command but `accept` reports either
 abbrev pub AcceptedIsRight : Option CallValues → WorldState → WorldState → End → Type 0
 AcceptedIsRight (Some (Learn a)) before now end = AcceptorIsRight a before now end
 AcceptedIsRight _ before now end = TellsNeither end.outcome
 
--- a fault that is told was counted: of the files, of the input, of a stream, or of a start, whose cause is what the spawner tells
+-- a fault that is reported was counted: of the files, of the input, of a stream, or of a start, whose cause is what the
+-- spawner tells
 pub record FaultsAreCounted (before now : WorldState) (outcome : Outcome) : Type 0 where
   pub file : (role : Role) → outcome ≡ FileFault role → CountedFault before.files.faults now.files.faults
   pub source : outcome ≡ SourceFault → CountedFault before.input.faults now.input.faults
@@ -287,7 +291,7 @@ pub record CameOtherwise (a : RecheckValues) (before now : FilesState) (kept : L
   pub kept_is : kept ≡ answers.kept.answers ++ last ∷ []
   pub clashes : (clash.first < length answers.kept.answers) × (clash.second ≡ length answers.kept.answers) × ClashAt (answer_at (answers_of answers.kept.answers) clash.first) (answer_of last) clash.place
 
--- a clash of two kept answers: the first one, or that of an answer of `recheck` which came otherwise
+-- a clash of two recorded answers: the first one, or that of an answer of `recheck` which came otherwise
 abbrev pub IsClashOf : Option CallValues → (before now : FilesState) → List KeptAnswer → Clash → Type 0
 IsClashOf (Some (Recheck a)) before now kept clash = CameOtherwise a before now kept clash
 IsClashOf _ before now kept clash = IsFirstClash (answers_of kept) clash
@@ -297,7 +301,8 @@ abbrev pub IsCrowdFor : Option CallValues → List Answer → List (List ℕ) �
 IsCrowdFor (Some (Learn a)) kept words = IsTooMany a.max_states kept words
 IsCrowdFor _ kept words = ⊥
 
--- no machine of fewer states than these gives the kept answers of a system, and the suite of one with so many is too large
+-- no machine of fewer states than these agrees with the recorded answers of a system, and the suite of one with this
+-- many is too large
 pub record LargeForSystem (a : LearnValues) (before now : FilesState) (kept : List KeptAnswer) (states number : ℕ) : Type 0 where
   pub system : System
   pub prior : List KeptAnswer
@@ -320,7 +325,7 @@ IsLargeFor (Some (Check a)) before now kept states number = LargeForModel a befo
 IsLargeFor (Some (Trial v)) before now kept states number = HasLargeSuite v.inputs 2 1 1024 (answers_of kept) states number
 IsLargeFor _ before now kept states number = ⊥
 
--- what is told of the kept answers, of a suite or of an instance is so
+-- what is reported of the recorded answers, of a suite or of an instance is so
 pub record FindingsHold (call : Option CallValues) (before now : WorldState) (end : End) : Type 0 where
   pub clash : (c : Clash) → end.outcome ≡ Nondeterministic c → IsClashOf call before.files now.files end.kept.answers c
   pub crowd : (words : List (List ℕ)) → end.outcome ≡ TooManyStates words → IsCrowdFor call (answers_of end.kept.answers) words

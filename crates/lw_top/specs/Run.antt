@@ -27,7 +27,7 @@ use Rattle.lw_top.specs.World.{WorldState, CountsOn}
 use Rattle.lw_top.specs.declared.values.ArgumentStop.{ArgumentStop}
 use Rattle.lw_top.specs.declared.values.ArgumentStop.TheVariants as stop
 
--- what arguments that weren't taken come to
+-- the outcome of arguments that weren't taken
 abbrev pub argument_outcome : ArgumentStop → Outcome
 argument_outcome stop.Usage = Usage
 argument_outcome stop.NoMemory = NoMemory

@@ -183,7 +183,7 @@ pub record IsTree (t : TreeState) : Type 0 where
   pub places : (k : ℕ) → k < length t.places → IsPlace t.outputs (node_at t.nodes) (place_at t.places k)
   pub refined : t.refinements < length t.access
 
--- one node is another or above it, and isn't the root; the way up has so many steps at most
+-- one node is another or above it, and isn't the root; the way up has this many steps at most
 abbrev pub IsOnWayWithin : ℕ → (ℕ → Node) → ℕ → ℕ → Type 0
 IsOnWayWithin zero node m n = ⊥
 IsOnWayWithin (suc steps) node m n = (0 < n) × ((m ≡ n) ⊎ IsOnWayWithin steps node m (node n).parent)

@@ -44,7 +44,7 @@ fn list_of(nodes: &Nodes, place: Place) -> u32
 }
 
 impl Arrivals {
-    /// Empty lists, for so many states with a transition by each letter.
+    /// Empty lists, for this many states with a transition by each letter.
     pub(crate) fn new(alloc: Global, states: u16, letters: u16) -> Result<Arrivals, NoMemory>
         ensures owners { IfOk result (λ a. length a.lists ≡ states + 1) }
         ensures cells { IfOk result (λ a. a.cells ≡ states * letters) }

@@ -234,9 +234,9 @@ impl DiscriminationTree {
     /// Answers whether transitions are left that have no target.
     ///
     /// # Errors
-    /// The stop of the oracle, or out of memory; or the words of a crowd, where a state more than may be would be needed. Each
-    /// transition then stands where it stood or one step below, and keeps its target and its output, where it had them; a later
-    /// call goes on from there.
+    /// The stop of the oracle, or out of memory; or pairwise apart words, where a state more than may be would be
+    /// needed. Each transition then stays where it was or goes one step below, and keeps its target and its output,
+    /// where it had them; a later call goes on from there.
     pub fn sift_level<O: Oracle>(&mut self, oracle: &mut O) -> Result<bool, GrowStop>
         requires can { O.can_settle oracle.old }
         requires may { MayAsk (O.state oracle.old).stop }

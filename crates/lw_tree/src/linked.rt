@@ -253,7 +253,7 @@ impl Nodes {
         self.push_leaf(leaf, other_branch, other);
     }
 
-    /// Puts a final node in the place of another one, with these nodes behind all others, and takes away what stands at the
+    /// Puts a final node in place of another one, with these nodes behind all others, and takes away what stands at the
     /// marked ones. There is room for them, and the lists, which are empty, are to have those below each.
     pub(crate) fn replace(
         &mut self,

@@ -61,7 +61,7 @@ fn place_edges(places: &mut Vec<Place>, inputs: u16, spanning: &[Edge], leaves: 
 }
 
 impl DiscriminationTree {
-    /// Puts a final node with this discriminator in the place of a block's root. The members' leaves stay below it. The
+    /// Puts a final node with this discriminator in place of a block's root. The members' leaves stay below it. The
     /// transitions that stood below it stand at it, but for those that states were reached by, which stand at these states'
     /// leaves; each keeps its output.
     ///

@@ -10,7 +10,7 @@ use crate::linked::Nodes;
 use crate::transitions::{Edge, Place, UNASKED};
 use lw_words::{NoMemory, Word};
 
-/// Makes room for a state more: so many nodes, a leaf, the transition that leads to it, and its own transitions.
+/// Makes room for a state more: this many nodes, a leaf, the transition that leads to it, and its own transitions.
 fn make_room(
     nodes: &mut Nodes,
     leaves: &mut Vec<u32>,

@@ -58,7 +58,7 @@ fn the_empty_word(alloc: Global) -> Result<Words, NoMemory>
     Ok(words)
 }
 
-/// Lists for so many states, with the transitions of one, which have no target.
+/// Lists for this many states, with the transitions of one, which have no target.
 fn new_arrivals(alloc: Global, states: u16, letters: u16) -> Result<Arrivals, NoMemory>
     requires some { 1 ≤ states }
     ensures { IfOk result (λ a. AreNewArrivals a states letters) }

@@ -31,8 +31,8 @@ drawn_outputs = codes "0" ∷ codes "1" ∷ []
 abbrev pub drawn_naming : Naming
 drawn_naming = record { names = drawn_outputs; brought = None }
 
--- what is told of a trial: the arguments; the states of the model, the refinements and the number of the kept answers; and that
--- the two are equal exactly where the model is the canonical form of the machine that was drawn
+-- what is reported of a trial: the arguments; the states of the model, the refinements and the number of the recorded
+-- answers; and that the two are equal exactly where the model is the canonical form of the machine that was drawn
 pub record IsTried (v : TrialValues) (end : End) (t : Tried) : Type 0 where
   pub states : t.states ≡ v.states
   pub inputs : t.inputs ≡ v.inputs
@@ -44,7 +44,7 @@ pub record IsTried (v : TrialValues) (end : End) (t : Tried) : Type 0 where
   pub answers : t.answers ≡ length end.kept.answers
   pub equal : (t.equal ≡ true) ↔ IsCanonical v.inputs (drawn_machine v).rows model.rows
 
--- what `trial` comes to: the machine has no more states than there may be, so a learning never ends in too many
+-- the outcome of `trial`: the machine has no more states than there may be, so a learning never ends in too many
 abbrev pub IsTrialOutcome : Outcome → Type 0
 IsTrialOutcome (Trial t) = Unit {0}
 IsTrialOutcome (SuiteTooLarge states number) = Unit {0}
@@ -52,7 +52,7 @@ IsTrialOutcome NoMemory = Unit {0}
 IsTrialOutcome SinkFault = Unit {0}
 IsTrialOutcome _ = ⊥
 
--- a trial is told that came within fewer than n refinements, or memory ran out
+-- a trial is reported that came within fewer than n refinements, or memory ran out
 abbrev pub IsReachedTrial : ℕ → Outcome → Type 0
 IsReachedTrial n (Trial t) = t.refinements < n
 IsReachedTrial n NoMemory = Unit {0}
@@ -72,12 +72,12 @@ pub record IsTrialRun (v : TrialValues) (out_before out_now : SinkState) (err_be
   pub without : end.model ≡ None → IsWithoutLearner end
   pub told : (t : Tried) → end.outcome ≡ Trial t → IsTried v end t
   pub quiet : IsTrial end.outcome → (out_now.faults ≡ out_before.faults) × (err_now.faults ≡ err_before.faults)
-  -- the kept answers are runs of the instances of that machine
+  -- the recorded answers are runs of the instances of that machine
   pub kept : KeepsRuns (drawn_machine v) v.workers [] end.kept.answers
   -- the outputs are those of the machine that was drawn; there are none only where memory ran out before anything was kept
   pub outputs : IfSome end.outputs (λ named. named ≡ drawn_naming)
   pub unnamed : end.outputs ≡ None → (end.outcome ≡ NoMemory) × (end.kept.answers ≡ [])
-  -- where its suite is not too large and no stream counted a fault, a trial is told, or memory runs out
+  -- where its suite is not too large and no stream counted a fault, a trial is reported, or memory runs out
   pub reached :
       suite_size v.states v.inputs 1 ≤ greatest_suite
       → ¬ CountedFault out_before.faults out_now.faults

@@ -36,7 +36,7 @@ struct Drawn {
     outputs: Names,
 }
 
-/// A model that was learned, with the kept answers and the names of their outputs.
+/// A model that was learned, with the recorded answers and the names of their outputs.
 #[derive(Drop)]
 struct Found {
     learned: Learned,
@@ -185,8 +185,8 @@ fn learn<R: Threads + Wait + Sync + Drop, O: Sink, E: Sink>(
 }
 
 /// `trial --states N --inputs A --seed S [--workers N] [--learner table|ttt] [--suite w|wp|h]`: draws a machine, learns it over
-/// so many instances with a learner of that kind and suites that are made so, and tells on `out` what was learned and whether
-/// that is the machine. The text of every other outcome goes to `err`.
+/// this many instances with a learner of that kind and suites that are made so, and tells on `out` what was learned and
+/// whether that is the machine. The text of every other outcome goes to `err`.
 pub fn trial<R: Threads + Wait + Sync + Drop, O: Sink, E: Sink>(
     rt: R,
     alloc: Global,

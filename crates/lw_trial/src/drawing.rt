@@ -20,7 +20,7 @@ fn round_pair(states: u16, state: u16) -> (u16, u16)
     ((state + 1) % states, u16::from(state + 1 == states))
 }
 
-/// A target among so many states, and an output: two numbers.
+/// A target among this many states, and an output: two numbers.
 fn drawn_pair(random: &mut Generator, states: u16) -> (u16, u16)
     requires { 0 < states }
     ensures target { result.0 ≡ draw_at random.old 0 % states }
@@ -55,8 +55,8 @@ fn drawn_state(
     Ok(row)
 }
 
-/// A machine of so many states and inputs and two outputs, drawn by a seed. Letter 0 goes round the states, and has output 1 at
-/// the last alone; targets and outputs of the other letters are the numbers of the seed's generator.
+/// A machine of this many states and inputs and two outputs, drawn by a seed. Letter 0 goes round the states, and has
+/// output 1 at the last alone; targets and outputs of the other letters are the numbers of the seed's generator.
 ///
 /// # Errors
 /// Only where memory runs out.

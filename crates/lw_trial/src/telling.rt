@@ -1,4 +1,4 @@
-//! What is told of a trial.
+//! What is reported of a trial.
 ghost use Rattle.std.specs.Prelude.{◌≡◌, ◌≢◌, ◌≤◌, length, Err, IfOk, OnOk};
 ghost use Rattle.lw_words.specs.Cause.{CountedFault};
 ghost use Rattle.lw_rounds.specs.Learner.{refinements_of};
@@ -18,7 +18,7 @@ use lw_rounds::Learned;
 use lw_words::{Kept, Names, NoMemory};
 use std::alloc::Global;
 
-/// A trial whose model was learned by so many answers.
+/// A trial whose model was learned by this many answers.
 fn tried(
     alloc: Global,
     arguments: &TrialArguments,

@@ -19,7 +19,7 @@ pub sum_below-add : (m : ℕ) (f g : ℕ → ℕ) → sum_below m (λ n. f n + g
 sum_below-add zero f g = omega arith
 sum_below-add (suc m) f g = let a = sum_below-add m f g in omega (arith, a)
 
--- so many numbers, each at most k
+-- this many numbers, each at most k
 pub sum_below-le : (m k : ℕ) (f : ℕ → ℕ) → ((n : ℕ) → n < m → f n ≤ k) → sum_below m f ≤ m * k
 sum_below-le zero k f le = omega arith
 sum_below-le (suc m) k f le = let a = sum_below-le m k f (λ n lt. le n (omega arith)) in let b = le m (omega arith) in omega (arith, a, b)

@@ -15,7 +15,7 @@ abbrev pub AreReplies : ℕ → List (Entry ℕ ℕ) → Type 0
 AreReplies sum [] = Unit {0}
 AreReplies sum (e ∷ es) = (e.reply ≡ sum) × AreReplies (sum + e.ask) es
 
--- a history of so many actors, each of which adds at most so often, and at most 100 at once
+-- a history of this many actors, each of which adds at most so often, and at most 100 at once
 pub record IsTally (actors each : ℕ) (es : List (Entry ℕ ℕ)) : Type 0 where
   pub replies : AreReplies 0 es
   pub small : sum_of es ≤ 100 * length es

@@ -55,6 +55,6 @@ pub trait Core {
         ensures opening { opening self.new ≡ opening self.old }
         ensures legal { legal (opening self.new) (entries self.new) };
 
-    // A legal history has at most so many entries, and with the actors they are below 2^64.
+    // A legal history has at most this many entries, and with the actors they are below 2^64.
     ghost bounded: { (o : Self.Opening) (es : List (Entry Self.Ask Self.Reply)) → legal o es → (length es ≤ most o) × (most o + actor_count o < 2 ^ 64) };
 }

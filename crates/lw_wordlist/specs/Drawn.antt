@@ -9,7 +9,7 @@ use Rattle.rand_pcg.specs.Pcg.{multiplier_128, pcg64, pcg64_of_seed}
 abbrev pub seeded : ℕ → Lcg
 seeded seed = pcg64_of_seed (pcg32_seed 32 seed)
 
--- a generator after so many numbers, and the number that it gives then
+-- a generator after this many numbers, and the number that it gives then
 abbrev pub after_draws : Lcg → ℕ → Lcg
 after_draws g i = advance 128 multiplier_128 i g
 

@@ -17,7 +17,7 @@ fn draw_letter(random: &mut Generator, inputs: u16) -> u16
     number as u16
 }
 
-/// A word of so many letters.
+/// A word of this many letters.
 fn draw_word(
     alloc: Global,
     random: &mut Generator,
@@ -35,8 +35,8 @@ fn draw_word(
     Ok(word)
 }
 
-/// Puts so many words of so many letters each behind these, drawn by a seed. Each letter is the next number of the seed modulo the
-/// number of inputs: first the letters of the first word, then those of the second, and so on.
+/// Puts this many words of this many letters each behind these, drawn by a seed. Each letter is the next number of the
+/// seed modulo the number of inputs: first the letters of the first word, then those of the second, and so on.
 ///
 /// # Errors
 /// Only where memory runs out: then some of the words stand there.

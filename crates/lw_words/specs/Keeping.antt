@@ -1,4 +1,4 @@
--- A list of kept answers with its room.
+-- A list of recorded answers with its room.
 use Rattle.std.specs.Prelude.{ℕ, List}
 use Rattle.lw_words.specs.declared.kept.KeptAnswer.{KeptAnswer}
 

@@ -6,7 +6,7 @@ use Rattle.lw_words.specs.declared.kept.KeptAnswer.{KeptAnswer}
 abbrev pub renumbered : List ℕ → List ℕ → List ℕ
 renumbered to numbers = map (λ y. slice_index_or to y 0) numbers
 
--- kept answers with their outputs renumbered
+-- recorded answers with their outputs renumbered
 abbrev pub renumbered_answer : List ℕ → KeptAnswer → KeptAnswer
 renumbered_answer to k = record { instance = k.instance; run = k.run; word = k.word; outs = renumbered to k.outs }
 

@@ -78,7 +78,7 @@ pub record Answer : Type 0 where
 abbrev pub answer_of : KeptAnswer → Answer
 answer_of k = record { word = k.word; outs = k.outs }
 
--- the answers of a list of kept answers, in its order
+-- the answers of a list of recorded answers, in its order
 abbrev pub answers_of : List KeptAnswer → List Answer
 answers_of kept = map answer_of kept
 
@@ -86,7 +86,7 @@ answers_of kept = map answer_of kept
 abbrev pub IsWhole : Answer → Type 0
 IsWhole k = length k.outs ≡ length k.word
 
--- a kept answer with one output for each letter
+-- a recorded answer with one output for each letter
 abbrev pub IsWholeKept : KeptAnswer → Type 0
 IsWholeKept k = IsWhole (answer_of k)
 

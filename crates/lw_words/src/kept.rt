@@ -1,4 +1,4 @@
-//! Kept answers: words with their outputs, and the run that each came from.
+//! Recorded answers: words with their outputs, and the run that each came from.
 ghost use Rattle.std.specs.Prelude.{◌≡◌, ℕ, ◌+◌, ◌<◌, ◌≤◌, List, [], ◌∷◌, ◌++◌, length, OnOk, OnErr, IfErr, IsOk, slice_get, Some};
 ghost use Rattle.std.specs.List.{All};
 ghost use Rattle.lw_words.specs.Renumbering.{renumbered_answers};
@@ -16,8 +16,8 @@ pub struct KeptAnswer {
     pub outs: Word,
 }
 
-/// A list of kept answers. Contracts see the answers in order, and beside them the room:
-/// so many more can be put in without memory.
+/// A list of recorded answers. Contracts see the answers in order, and beside them the room:
+/// this many more can be put in without memory.
 #[derive(Drop)]
 pub struct Kept {
     answers: Vec<KeptAnswer>,
@@ -32,7 +32,7 @@ impl Model for Kept {
     ghost view = { λ kept. record { answers = kept.answers.items; room = vec_capacity kept.answers - vec_len kept.answers } };
 }
 
-/// Puts `to[y]` in the place of each output `y`.
+/// Puts `to[y]` in place of each output `y`.
 fn renumber(answers: &mut [KeptAnswer], to: &[u16])
     requires { All (λ k. All (λ y. y < length to.now) k.outs) answers.old }
     ensures { answers.new ≡ renumbered_answers to.now answers.old }
@@ -77,7 +77,7 @@ impl Kept {
         }
     }
 
-    /// Puts `to[y]` in the place of each output `y`. Takes no memory.
+    /// Puts `to[y]` in place of each output `y`. Takes no memory.
     pub fn renumber(&mut self, to: &[u16])
         requires { All (λ k. All (λ y. y < length to.now) k.outs) self.old.answers }
         ensures answers { self.new.answers ≡ renumbered_answers to.now self.old.answers }

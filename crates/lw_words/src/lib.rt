@@ -1,4 +1,4 @@
-//! Words over numbered letters and their order, lists of names, kept answers, and why a run stopped.
+//! Words over numbered letters and their order, lists of names, recorded answers, and why a run stopped.
 #![tactic(auto)]
 
 mod kept;

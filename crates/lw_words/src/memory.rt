@@ -26,7 +26,7 @@ impl<T: Drop> From<AllocFailed<T>> for NoMemory {
     }
 }
 
-/// What a call hands back beside `NoMemory` is let go.
+/// What a call hands back beside `NoMemory` is dropped.
 impl<T: Drop> From<(T, NoMemory)> for NoMemory {
     fn from(_: (T, NoMemory)) -> NoMemory {
         NoMemory

@@ -14,7 +14,7 @@ pub struct Word {
     alloc: Global,
 }
 
-/// Puts `to[y]` in the place of each number `y`.
+/// Puts `to[y]` in place of each number `y`.
 fn renumber(numbers: &mut [u16], to: &[u16])
     requires { All (λ y. y < length to.now) numbers.old }
     ensures { numbers.new ≡ renumbered to.now numbers.old }
@@ -95,7 +95,7 @@ impl Word {
         self.letters.clear();
     }
 
-    /// Puts `to[y]` in the place of each letter `y`. Takes no memory.
+    /// Puts `to[y]` in place of each letter `y`. Takes no memory.
     pub fn renumber(&mut self, to: &[u16])
         requires { All (λ y. y < length to.now) self.old }
         ensures { self.new ≡ renumbered to.now self.old }

@@ -4,7 +4,7 @@ use Rattle.std.specs.List.{All}
 use Rattle.lw_words.specs.Word.{IsPrefix}
 use Rattle.lw_words.specs.declared.kept.KeptAnswer.{KeptAnswer}
 
--- the word is empty, or a front of the word of a kept answer
+-- the word is empty, or a prefix of the word of a recorded answer
 abbrev pub WordIsAnswered : List KeptAnswer → List ℕ → Type 0
 WordIsAnswered kept w = (w ≡ []) ⊎ ((k : KeptAnswer) × Contains kept k × IsPrefix w k.word)
 

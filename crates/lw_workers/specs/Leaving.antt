@@ -7,7 +7,7 @@ use Rattle.lw_pool.specs.Sharing.{oracle_of}
 use Rattle.lw_pool.specs.Standing.{PoolStands}
 
 -- a pool once a learning with it has ended, by the stop that this answers, or None where it answers anything else: all is left
--- as a learning leaves its oracle, the pool stands, and what it began with is as it was
+-- as a learning leaves its oracle, the pool holds good, and what it began with is as it was
 pub record HasLearned {S : Type 0} (before now : PoolState S) (stop : Option AskStop) : Type 0 where
   pub leaves : Leaves (oracle_of before) (oracle_of now) stop
   pub stands : PoolStands now

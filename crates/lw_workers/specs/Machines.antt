@@ -17,9 +17,9 @@ use Rattle.lw_rounds.specs.declared.stops.LearnStop.TheVariants as learn
 abbrev pub run_numbers : ℕ → List KeptAnswer → List ℕ
 run_numbers instance kept = map (λ k. k.run) (filter (λ k. k.instance == instance) kept)
 
--- the kept answers are first the prior ones, as they were, and since then runs of a machine's instances, of which there are so
--- many: those of each instance are its runs 0, 1, 2 and so on; each is the machine's answer to a word over its inputs; and the
--- word of none was known when it was asked
+-- the recorded answers are first the prior ones, as they were, and since then runs of a machine's instances, of which
+-- there are this many: those of each instance are its runs 0, 1, 2 and so on; each is the machine's answer to a word
+-- over its inputs; and the word of none was known when it was asked
 pub record KeepsRuns (t : MealyMachine) (instances : ℕ) (prior kept : List KeptAnswer) : Type 0 where
   pub since : List KeptAnswer
   pub first : kept ≡ prior ++ since
@@ -30,8 +30,8 @@ pub record KeepsRuns (t : MealyMachine) (instances : ℕ) (prior kept : List Kep
   pub gives : Gives t.rows (answers_of since)
   pub once : AskedOnce prior kept
 
--- why a learning of a machine stopped, by the kept answers: no instance stops; a clash is that of the first two of them that no
--- one machine gives, which takes a prior answer that isn't the machine's
+-- why a learning of a machine stopped, by the recorded answers: no instance stops; a clash is that of the first two of
+-- them that no one machine agrees with, which takes a prior answer that isn't the machine's
 abbrev pub IsMachineStop : List KeptAnswer → LearnStop → Type 0
 IsMachineStop kept (learn.Ask (ask.Sul instance stop)) = ⊥
 IsMachineStop kept (learn.Ask (ask.Clash c)) = IsFirstClash (answers_of kept) c
@@ -46,8 +46,8 @@ IsReached n (Err (learn.Ask stop)) = stop ≡ ask.NoMemory
 IsReached n (Err (learn.Crowd words)) = ⊥
 IsReached n (Err (learn.TooLarge model number)) = ⊥
 
--- the limits hold for some machine that gives the answers: it has no more states than there may be, and its suite is not too
--- large
+-- the limits hold for some machine that agrees with the answers: it has no more states than there may be, and its suite
+-- is not too large
 pub record IsWithin (a k most : ℕ) (m : Rows) : Type 0 where
   pub machine : IsMachine a m
   pub few : length m ≤ most

@@ -13,7 +13,7 @@ use lw_rounds::{LearnStop, Learned, Phase, Settings, Step, Watcher, learn};
 use lw_words::Word;
 use std::alloc::Global;
 
-/// Tells of words that were settled, before which the oracle kept so many answers.
+/// Tells of words that were settled, before which the oracle kept this many answers.
 fn tell_words<O: Oracle, W: Watcher>(watcher: &mut W, before: usize, oracle: &O) {
     let known = oracle.cache().kept().len();
     watcher.step(Step {

@@ -52,7 +52,7 @@ pub fn learn_with<S: Sul + Send, R: Threads + Wait + Sync, W: Watcher>(
         settings.max_states (answers_of result.pool.kept)) }
     ensures leaves { HasLearned pool result.pool (learn_stop result.learned) }
 {
-    // for the proof alone, here and below: the pool stands
+    // for the proof alone, here and below: the pool holds good
     let _ = pool.cache();
     let settle = |pool: &mut Pool<S, R>, batch: &[Word]|
         requires letters { All (IsWord pool.now.inputs) batch.now }

@@ -24,7 +24,7 @@ use std::alloc::Global;
 use std::sync::Wait;
 use std::thread::Threads;
 
-/// Sessions of so many instances of a machine, in their order.
+/// Sessions of this many instances of a machine, in their order.
 fn instances(
     alloc: Global,
     system: &Mealy,
@@ -43,8 +43,8 @@ fn instances(
     Ok(sessions)
 }
 
-/// A pool of so many instances of a machine over these names, which begins with what the cache keeps. Where there is no memory
-/// the names and the cache are handed back.
+/// A pool of this many instances of a machine over these names, which begins with what the cache keeps. Where there is
+/// no memory the names and the cache are handed back.
 fn pool_of<R: Drop>(
     rt: R,
     alloc: Global,
@@ -71,12 +71,12 @@ fn pool_of<R: Drop>(
     }
 }
 
-/// A model of a machine, whose outputs have these names, as `learn_with` makes it of a pool of so many instances of the machine;
-/// and the kept answers, which bear out what came of the learning: first those that the cache begins with, the prior ones, and
-/// then those of the instances. The names are handed back as they were.
+/// A model of a machine, whose outputs have these names, as `learn_with` makes it of a pool of this many instances of
+/// the machine; and the recorded answers, which bear out what came of the learning: first those that the cache begins
+/// with, the prior ones, and then those of the instances. The names are handed back as they were.
 ///
-/// A prior answer that isn't the machine's may be told by a clash; without one, a learning stops for want of states or memory
-/// alone, or because its suite is too large.
+/// A prior answer that isn't the machine's may be found out by a clash; without one, a learning stops only where there
+/// may be no more states, memory runs out, or its suite is too large.
 pub fn learn_machine<R: Threads + Wait + Sync + Drop, W: Watcher>(
     rt: R,
     alloc: Global,

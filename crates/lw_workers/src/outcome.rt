@@ -13,7 +13,7 @@ pub struct Start {
     pub words: Words,
 }
 
-/// What came of a learning: what was learned, the kept answers, and the names of their outputs.
+/// What came of a learning: what was learned, the recorded answers, and the names of their outputs.
 #[derive(Drop)]
 pub struct LearningOutcome {
     pub learned: Result<Learned, LearnStop>,

@@ -8,7 +8,7 @@ use lw_chunks::{Place, spell};
 use lw_words::{NoMemory, Word};
 use std::alloc::Global;
 
-/// A place in a suite with its front, an access word and a middle word, and what stands behind it.
+/// A place in a suite with its prefix, an access word and a middle word, and what stands behind it.
 #[derive(Drop)]
 pub(crate) struct Cursor {
     pub(crate) place: Place,
@@ -16,7 +16,7 @@ pub(crate) struct Cursor {
     pub(crate) row: Row,
 }
 
-/// The number of fronts whose middle word has at most `extra` letters.
+/// The number of prefixes whose middle word has at most `extra` letters.
 fn shorter_count(parts: &Parts) -> u64
     requires { AreParts parts.now }
     ensures count { result ≡ length (shorter_blocks parts.now) }
@@ -25,7 +25,7 @@ fn shorter_count(parts: &Parts) -> u64
     parts.access.len() as u64 * parts.shorter
 }
 
-/// The number of all fronts.
+/// The number of all prefixes.
 pub(crate) fn front_count(parts: &Parts) -> u64
     requires { AreParts parts.now }
     ensures count { result ≡ length (blocks parts.now) }
@@ -34,7 +34,8 @@ pub(crate) fn front_count(parts: &Parts) -> u64
     parts.access.len() as u64 * (parts.shorter + parts.longest)
 }
 
-/// The number of the access word of a front, and that of its middle word among those of at most one letter more than `extra`.
+/// The number of the access word of a prefix, and that of its middle word among those of at most one letter more than
+/// `extra`.
 fn split_front(parts: &Parts, front: u64) -> (usize, u64)
     requires parts { AreParts parts.now }
     requires front { front < length (blocks parts.now) }
@@ -52,7 +53,7 @@ fn split_front(parts: &Parts, front: u64) -> (usize, u64)
     }
 }
 
-/// Makes a word the front with this number, and answers how many letters its middle word has fewer than the longest.
+/// Makes a word the prefix with this number, and answers how many letters its middle word has fewer than the longest.
 fn spell_front(parts: &Parts, word: &mut Word, front: u64) -> Result<usize, NoMemory>
     requires parts { AreParts parts.now }
     requires front { front < length (blocks parts.now) }
@@ -66,7 +67,7 @@ fn spell_front(parts: &Parts, word: &mut Word, front: u64) -> Result<usize, NoMe
     Ok(usize::from(parts.extra) + 1 - (word.len() - first))
 }
 
-/// Makes a word the front with this number, and answers what stands behind it; past the last front, any row.
+/// Makes a word the prefix with this number, and answers what stands behind it; past the last prefix, any row.
 fn front_at(parts: &Parts, word: &mut Word, front: u64) -> Result<Row, NoMemory>
     requires { AreParts parts.now }
     ensures state { IfOk result (λ row. row.state < length parts.now.machine.rows) }
@@ -98,7 +99,7 @@ pub(crate) fn start(alloc: Global, parts: &Parts, place: Place) -> Result<Cursor
     Ok(Cursor { place, front, row })
 }
 
-/// The numbers of the words that stand behind a front, beside nothing; none where all separating words do.
+/// The numbers of the words that stand behind a prefix, beside nothing; none where all separating words do.
 fn numbers_behind(parts: &Parts, row: Row) -> Option<&[u16]>
     requires parts { AreParts parts.now }
     requires state { row.state < length parts.now.machine.rows }
@@ -115,7 +116,7 @@ fn numbers_behind(parts: &Parts, row: Row) -> Option<&[u16]>
     }
 }
 
-/// The number of words that stand behind the front of a cursor, beside nothing.
+/// The number of words that stand behind the prefix of a cursor, beside nothing.
 fn end_count(parts: &Parts, cursor: &Cursor) -> usize
     requires parts { AreParts parts.now }
     requires state { cursor.now.row.state < length parts.now.machine.rows }
@@ -127,7 +128,7 @@ fn end_count(parts: &Parts, cursor: &Cursor) -> usize
     }
 }
 
-/// What stands behind the front at a cursor: nothing, or a separating word.
+/// What stands behind the prefix at a cursor: nothing, or a separating word.
 pub(crate) fn end_at<'a>(parts: &'a Parts, cursor: &Cursor) -> &'a [u16]
     requires parts { AreParts parts.now }
     requires state { cursor.now.row.state < length parts.now.machine.rows }

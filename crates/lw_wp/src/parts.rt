@@ -12,10 +12,10 @@ use lw_mealy::Mealy;
 use lw_words::{NoMemory, Words};
 
 /// The machine, the access words and the separating words of a suite for `extra` states more, the numbers of its middle
-/// words of at most `extra` and of one letter more, and what stands behind a front.
+/// words of at most `extra` and of one letter more, and what stands behind a prefix.
 ///
-/// That is a table of numbers of separating words: for each state to which the front leads, and for each number of letters
-/// that the middle word has fewer than the longest. Where a state has no such row, all separating words do.
+/// That is a table of numbers of separating words: for each state to which the prefix leads, and for each number of
+/// letters that the middle word has fewer than the longest. Where a state has no such row, all separating words do.
 #[derive(Drop)]
 pub(crate) struct Parts {
     pub(crate) machine: Mealy,
@@ -27,7 +27,7 @@ pub(crate) struct Parts {
     pub(crate) behind: Vec<Vec<Vec<u16>>>,
 }
 
-/// Which row of the table stands behind a front.
+/// Which row of the table stands behind a prefix.
 #[derive(Clone, Copy)]
 pub(crate) struct Row {
     pub(crate) state: u16,

@@ -17,7 +17,7 @@ pub record RecordingState : Type 0 where
 abbrev pub oracle_origins : MealyMachine → List Origin
 oracle_origins t = record { machine = Some t.rows; link = None; letters = None } ∷ []
 
--- each kept answer is the machine's, of that instance
+-- each recorded answer is the machine's, of that instance
 pub record KeepsOf (t : MealyMachine) (kept : List KeptAnswer) : Type 0 where
   pub answers : KeepsAnswers t.inputs t.outputs (oracle_origins t) kept
   pub own : All (λ k. k.instance < 1) kept

@@ -9,7 +9,7 @@ use Rattle.lw_apart.specs.Pairs.{WordPair, IsKnownApart, fronts as fronts_of}
 use Rattle.lw_apart.specs.Missing.{IsFirstOpen, IsLeastUnknown}
 use Rattle.lw_apart.specs.declared.fronts.Fronts.{Fronts}
 
--- the access words with the words of at most so many letters behind them
+-- the access words with the words of at most this many letters behind them
 abbrev pub all_fronts : Fronts → List (List ℕ)
 all_fronts f = fronts_of f.inputs f.access f.longest
 

@@ -27,7 +27,7 @@ pub record GainsLine (machine : Option Rows) (letters : List (List ℕ)) (w : Li
   pub gains : GainsRun machine w outs names_before names runs_before runs kept_before kept
   pub line : TakesAll (line_of letters names w outs) before now
 
--- or only a front of its line
+-- or only a prefix of its line
 pub record GainsPart (machine : Option Rows) (letters : List (List ℕ)) (w : List ℕ) (names_before names : List (List ℕ)) (runs_before runs : List Run) (kept_before kept : List KeptAnswer) (before now : Option (List ℕ)) : Type 0 where
   pub outs : List ℕ
   pub gains : GainsRun machine w outs names_before names runs_before runs kept_before kept

@@ -134,7 +134,7 @@ fn split(rt: &impl Abort, alloc: Global, oracle: &mut Recording, case: &Case) ->
     split_after(rt, oracle, alloc, &known, &model, &access)
 }
 
-/// Whether a case comes to what it says.
+/// Whether a case ends as it says.
 fn comes_so(rt: &impl Abort, alloc: Global, case: &Case) -> bool {
     let system = of_rows(rt, alloc, case.inputs, case.system);
     let mut oracle = Recording::new(alloc, system);

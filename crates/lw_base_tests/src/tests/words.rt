@@ -1,4 +1,4 @@
-//! Words, names, kept answers and lines by hand, and at their limits.
+//! Words, names, recorded answers and lines by hand, and at their limits.
 ghost use Rattle.std.specs.Prelude.{◌≡◌};
 
 use lw_words::{

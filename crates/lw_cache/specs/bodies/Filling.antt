@@ -10,7 +10,7 @@ abbrev pub IsChildAt : (ℕ → Node) → ℕ → ℕ → ℕ → ℕ → Type 0
 IsChildAt at n p letter c =
     ((c ≡ 0) × ((j : ℕ) → IsChildOf at p n j → (at j).letter ≢ letter)) ⊎ (IsChildOf at p n c × ((at c).letter ≡ letter))
 
--- the node of the longest front of a word that has one
+-- the node of the longest prefix of a word that has one
 pub record IsReached (at : ℕ → Node) (n : ℕ) (w : List ℕ) (node depth : ℕ) : Type 0 where
   pub node_within : node < n
   pub depth_within : depth ≤ length w
@@ -42,7 +42,7 @@ abbrev pub ComparedTo : (ℕ → Node) → ℕ → List ℕ → List ℕ → ℕ
 ComparedTo at n w outs depth None = AgreeBetween at n w outs depth (length w)
 ComparedTo at n w outs depth (Some found) = (depth ≤ found.1) × DisagreesAt at n w outs found.0 found.1 × AgreeBetween at n w outs depth found.1
 
--- the node tells the new answer where it told none
+-- the node has the new answer where it had none
 abbrev pub marked : Node → ℕ → ℕ → Node
 marked b answer output = record {
   letter = b.letter;
@@ -55,7 +55,7 @@ marked b answer output = record {
   ends = b.ends;
 }
 
--- the nodes on the way to w that are deeper than this and told no answer tell this one, and no other node is changed
+-- the nodes on the way to w that are deeper than this and had no answer have this one, and no other node is changed
 pub record AreMarked (was at : ℕ → Node) (n : ℕ) (w outs : List ℕ) (answer depth : ℕ) : Type 0 where
   pub each : (i : ℕ) → (at i ≡ was i) ⊎ ((0 < i) × (i < n) × IsPrefix (word_of was i) w × ((was i).answer ≡ no_answer) × (at i ≡ marked (was i) answer (last_out outs (word_of was i))))
   pub way : (i : ℕ) → 0 < i → i < n → IsPrefix (word_of was i) w → depth < length (word_of was i) → ((was i).answer ≡ no_answer) → at i ≡ marked (was i) answer (last_out outs (word_of was i))

@@ -14,7 +14,7 @@ IsLive b = (b.answer ≢ no_answer) ⊎ (b.claim ≢ no_claim)
 abbrev pub IsLiveWord : (ℕ → Node) → ℕ → List ℕ → Type 0
 IsLiveWord at end w = (j : ℕ) × (0 < j) × (j < end) × IsLive (at j) × (word_of at j ≡ w)
 
--- so many of the nodes before the end are live
+-- this many of the nodes before the end are live
 pub record CountsLive (at : ℕ → Node) (end count : ℕ) : Type 0 where
   pub words : List (List ℕ)
   pub counted : length words ≡ count

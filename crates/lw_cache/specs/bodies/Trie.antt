@@ -25,7 +25,7 @@ root = record { letter = 0; output = 0; parent = 0; first = 0; next = 0; answer 
 abbrev pub node_at : List Node → ℕ → Node
 node_at nodes i = slice_index_or nodes i no_node
 
--- the letters from the root to a node, where there are at most so many
+-- the letters from the root to a node, where there are at most this many
 abbrev pub spell : (ℕ → Node) → ℕ → ℕ → List ℕ
 spell at zero i = []
 spell at (suc most) zero = []
@@ -44,7 +44,7 @@ pub record IsNewest (at : ℕ → Node) (p bound c : ℕ) : Type 0 where
   pub is : (c ≡ 0) ⊎ IsChildOf at p bound c
   pub newest : (j : ℕ) → IsChildOf at p bound j → j ≤ c
 
--- parents stand before their children; from a node's first child by `next` one comes to all; no two have one letter
+-- parents stand before their children; from a node's first child by `next` all are reached; no two have one letter
 pub record IsTrie (at : ℕ → Node) (n : ℕ) : Type 0 where
   pub up : (i : ℕ) → 0 < i → i < n → (at i).parent < i
   pub first : (i : ℕ) → i < n → IsNewest at i n (at i).first
@@ -86,7 +86,7 @@ AreLeast at n = (i : ℕ) → 0 < i → i < n → IsLeast at n i (at i).claim
 abbrev pub claims_of : (ℕ → Node) → List Held → List Claim
 claims_of at held = map (λ h. record { number = h.number; word = word_of at h.end }) held
 
--- what the nodes are of the kept answers and the claims
+-- what the nodes are of the recorded answers and the claims
 pub record IsStored (at : ℕ → Node) (n : ℕ) (held : List Held) (kept : List KeptAnswer) : Type 0 where
   pub trie : IsTrie at n
   pub answered : AreAnswered at n (answers_of kept)

@@ -1,4 +1,4 @@
--- What a search for access words comes to.
+-- The result of a search for access words.
 use Rattle.std.specs.Prelude.{ℕ}
 use Rattle.lw_mealy.specs.Machine.{Rows}
 use Rattle.lw_separate.specs.Canonical.{AreLeastAccess}

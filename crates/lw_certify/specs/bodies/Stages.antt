@@ -1,4 +1,4 @@
--- The first word of a list that isn't known, and what a suite comes to, stage by stage.
+-- The first word of a list that isn't known, and the result of a suite, stage by stage.
 use Rattle.std.specs.Prelude.{◌≡◌, ℕ, List, [], slice_index_or, Option, MatchOption}
 use Rattle.std.specs.List.{All}
 use Rattle.lw_words.specs.Word.{Answer}
@@ -19,7 +19,7 @@ pub record FirstUnknown (ks : List Answer) (words : List (List ℕ)) (word : Lis
 abbrev pub IsFirstUnknown : List Answer → List (List ℕ) → Option (List ℕ) → Type 0
 IsFirstUnknown ks words found = MatchOption found (All (IsKnown ks) words) (FirstUnknown ks words)
 
--- what the words of a suite come to
+-- the result of the words of a suite
 abbrev pub IsJudged : List Answer → List (List ℕ) → Verdict → Type 0
 IsJudged ks words (verdict.Unreached state) = ⊥
 IsJudged ks words (verdict.Alike p q) = ⊥

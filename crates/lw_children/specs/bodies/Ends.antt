@@ -12,7 +12,8 @@ use Rattle.lw_rounds.specs.declared.stops.LearnStop.{LearnStop}
 use Rattle.lw_rounds.specs.declared.stops.LearnStop.TheVariants as learn
 use Rattle.lw_children.specs.Crews.{BearsOut, IsChildSeen}
 
--- what was seen of the session of a child, which the record of its link bears out, and the kept answers of its instance
+-- what was seen of the session of a child, which the record of its link bears out, and the recorded answers of its
+-- instance
 pub record IsChildEnd (letters : List (List ℕ)) (outputs : Option (List (List ℕ))) (names : List (List ℕ)) (since : List KeptAnswer) (base i : ℕ) (link : LinkState) : Type 0 where
   pub seen : Seen
   pub is_seen : IsChildSeen letters outputs (base + i) seen
@@ -22,7 +23,7 @@ pub record IsChildEnd (letters : List (List ℕ)) (outputs : Option (List (List 
 abbrev pub AreChildEnds : (letters : List (List ℕ)) (outputs : Option (List (List ℕ))) (names : List (List ℕ)) (since : List KeptAnswer) (base : ℕ) → List LinkState → Type 0
 AreChildEnds letters outputs names since base links = (i : ℕ) (d : LinkState) → i < length links → IsChildEnd letters outputs names since base i (slice_index_or links i d)
 
--- why a learning stopped before it began, where so many sessions were made
+-- why a learning stopped before it began, where this many sessions were made
 abbrev pub broken_stop : StartStop → ℕ → LearnStop
 broken_stop Failed n = learn.Ask (ask.Sul n sul.Failed)
 broken_stop NoMemory n = learn.Ask ask.NoMemory

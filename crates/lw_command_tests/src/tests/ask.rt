@@ -318,7 +318,7 @@ fn arguments(rt: &impl Abort, alloc: Global, case: &Case) -> AskArguments {
     AskArguments::new(Goal::Machine, case.source, string(rt, alloc, "f"), words)
 }
 
-/// What a call comes to.
+/// The outcome of a call.
 fn end(alloc: Global, arguments: &AskArguments, outside: &mut Outside) -> End {
     ask(
         alloc,

@@ -100,7 +100,7 @@ fn sink(rt: &impl Abort, alloc: Global) -> MemorySink {
     MemorySink::new(alloc, 4096, 4096, Vec::new(alloc)).expect(rt, "memory")
 }
 
-/// What a call came to.
+/// The outcome of a call.
 #[derive(Clone, Copy, PartialEq, Eq)]
 enum Came {
     /// A model was found without a refinement.
@@ -144,7 +144,7 @@ fn look(end: &End) -> Seen {
     }
 }
 
-/// What a learning comes to: the clauses of `learn` would weigh down each proof that calls it.
+/// The outcome of a learning: the clauses of `learn` would weigh down each proof that calls it.
 fn end<R: Threads + Wait + Sync + Drop>(
     rt: R,
     alloc: Global,
@@ -154,7 +154,7 @@ fn end<R: Threads + Wait + Sync + Drop>(
     learn(rt, alloc, arguments, outside)
 }
 
-/// The same, and the end is let go: a proof of what owns it beside all that a call is handed would be a long one.
+/// The same, and the end is dropped: a proof of what owns it beside all that a call is handed would be a long one.
 fn call<R: Threads + Wait + Sync + Drop>(
     rt: R,
     alloc: Global,
@@ -205,7 +205,7 @@ fn bare(source: Source, system: String, settings: Settings) -> LearnArguments {
     LearnArguments::new(Goal::Machine, source, system, settings, None, files)
 }
 
-/// What a learning of `m` comes to at a limit of states.
+/// The outcome of a learning of `m` at a limit of states.
 fn limited<R: Abort + Threads + Wait + Sync + Copy + Drop>(
     rt: R,
     alloc: Global,
@@ -225,7 +225,7 @@ fn limited<R: Abort + Threads + Wait + Sync + Copy + Drop>(
     call(rt, alloc, &arguments, outside)
 }
 
-/// What a learning of the setup `m` comes to.
+/// The outcome of a learning of the setup `m`.
 fn told<R: Abort + Threads + Wait + Sync + Copy + Drop>(
     rt: R,
     alloc: Global,

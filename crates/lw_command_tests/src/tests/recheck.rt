@@ -254,7 +254,7 @@ fn arguments(rt: &impl Abort, alloc: Global) -> RecheckArguments {
     RecheckArguments::new(string(rt, alloc, "s"), string(rt, alloc, "a"))
 }
 
-/// What a call comes to.
+/// The outcome of a call.
 fn end(alloc: Global, arguments: &RecheckArguments, outside: &mut Outside) -> End {
     recheck(
         alloc,

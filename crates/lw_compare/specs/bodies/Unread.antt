@@ -21,7 +21,7 @@ pub record HasStopped (name : List ℕ) (files_before files_now : FilesState) (s
   pub failed : s ≡ stop.Failed → CountedFault files_before.faults files_now.faults × (files_now.calls ≡ noted (read_call name true) files_before.calls) × (files_now.reads ≡ files_before.reads)
   pub memory : s ≡ stop.NoMemory → (files_now.calls ≡ files_before.calls) ⊎ (files_now.calls ≡ noted (read_call name false) files_before.calls)
 
--- files once the first model was read, after which these reads are told
+-- files once the first model was read, after which these reads are observed
 abbrev pub with_first : List ℕ → List File → FilesState → FilesState
 with_first one reads files_before = record { holds = files_before.holds; calls = first_read one false files_before; reads = reads; faults = files_before.faults }
 

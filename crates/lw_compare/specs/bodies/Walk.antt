@@ -26,7 +26,7 @@ step_at steps k = slice_index_or steps k (record { parent = 0; letter = 0 })
 abbrev pub AreBack : List Step → Type 0
 AreBack steps = (k : ℕ) → k < length steps → (step_at steps k).parent ≤ k
 
--- the search has come to the letter x of the i-th pair, and wherever it has been, outputs have one name
+-- the search has reached the letter x of the i-th pair, and wherever it has been, outputs have one name
 pub record Walked (first second : Machine) (w : Walk) (i x : ℕ) : Type 0 where
   pub search : IsSearch first.mealy.inputs (joint first second) (words_of w.steps.items) w.nodes.items w.places.items i x
   pub back : AreBack w.steps.items

@@ -1,4 +1,5 @@
--- What a history of a desk has come to: which words were answered, which instance's runs the answers are, and why it stopped.
+-- What a history of a desk has led to: which words were answered, which instance's runs the answers are, and why it
+-- stopped.
 use Rattle.std.specs.Prelude.{◌≡◌, ℕ, ◌<◌, List, [], ◌∷◌, ◌++◌, length, map, Some, None, Contains}
 use Rattle.std.specs.List.{All}
 use Rattle.lw_words.specs.Word.{answers_of, AllDiffer, named}

@@ -5,7 +5,7 @@ use Rattle.lw_json.specs.declared.fault.Field.{Field}
 use Rattle.lw_json.specs.declared.fault.JsonFault.{JsonFault}
 use Rattle.lw_json.specs.declared.fault.JsonFault.TheVariants.{Shape, NoMemory}
 
--- out of memory, or a fault of the part, for which P holds, told as one of the file
+-- out of memory, or a fault of the part, for which P holds, reported as one of the file
 abbrev pub Told : {F : Type 0} → (F → JsonFault) → (F → Type 0) → JsonFault → Type 0
 Told {F} wrap P told = (told ≡ NoMemory) ⊎ ((fault : F) × (told ≡ wrap fault) × P fault)
 

@@ -32,7 +32,7 @@ pub record IsReady (s : System) (naming : Naming) (cache : Caching) : Type 0 whe
   pub may : MayBegin naming (length (letters_of s)) (count_of (declared_of s)) cache.kept
   pub free : declared_of s ≡ None → cache.kept ≡ []
 
--- a machine of which an acceptor is told has `?` and its letters, and its three outputs
+-- a machine of which an acceptor is reported has `?` and its letters, and its three outputs
 abbrev pub IsMachineFor : Goal → Machine → Type 0
 IsMachineFor aim.Machine m = Unit {0}
 IsMachineFor aim.Acceptor m = (letters : List (List ℕ)) × AreAcceptorLetters letters × (m.inputs ≡ asked_names letters) × (m.outputs ≡ answer_names)

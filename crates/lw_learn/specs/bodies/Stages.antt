@@ -1,4 +1,4 @@
--- What a step of the reading of a task comes to.
+-- The outcomes of a step of the reading of a task.
 use Rattle.std.specs.Prelude.{◌≡◌, ◌⊎◌, ℕ, ◌<◌, ◌≤◌, ◌^◌, List, [], length, Option, Some, None, Result, IfOk, IfErr, OnOk}
 use Rattle.std.specs.List.{All}
 use Rattle.std.specs.Str.Lossy.{utf8_lossy}
@@ -58,7 +58,7 @@ IsClash s prior read kept (Nondeterministic clash) = (read ≡ Some s) × (kept 
 IsClash s prior read kept NoMemory = (kept ≡ []) × (read ≡ None)
 IsClash s prior read kept _ = ⊥
 
--- why prior answers of a system come to no task, by the outcome
+-- why prior answers of a system make no task, by the outcome
 abbrev pub IsUnfit : System → Answers → Option System → List KeptAnswer → Outcome → Type 0
 IsUnfit s p read kept (Alphabets r) = (r ≡ Prior) × (read ≡ Some s) × (¬ FitsSystem p s) × (kept ≡ [])
 IsUnfit s p read kept (Nondeterministic clash) =
@@ -75,7 +75,7 @@ abbrev pub IsBack : Outcome → System → Option System → Type 0
 IsBack NoMemory s read = read ≡ None
 IsBack _ s read = read ≡ Some s
 
--- why the file of prior answers came to no task
+-- why the file of prior answers made no task
 abbrev pub IsPriorRefused : List ℕ → System → FilesState → FilesState → Option System → List KeptAnswer → Outcome → Type 0
 IsPriorRefused name s files_before files_now read kept outcome =
     (IsRefused IsAnswersFile IsAnswersFault Prior name files_before files_now outcome × IsBack outcome s read × (kept ≡ []))
@@ -100,7 +100,7 @@ pub record SaysWorded (a : LearnValues) (files_before files_now : FilesState) (t
   pub letters : All (IsWord (length (letters_of t.task.system))) t.words
   pub few : length t.words < 2 ^ 32
 
--- what reading them came to
+-- the outcome of reading them
 pub record IsWordedStage (a : LearnValues) (files_before files_now : FilesState) (result : Result WordedTask UnreadState) : Type 0 where
   pub ok : IfOk result (SaysWorded a files_before files_now)
   pub made : OnOk result (MadeReads files_before files_now [])

@@ -153,10 +153,10 @@ fn gives_one_up(rt: &impl Abort, alloc: Global) -> Cache
     cache
 }
 
-/// Words, and how they stand.
+/// Words, and their states.
 type Told = (&'static [u16], Known);
 
-/// Whether words stand so.
+/// Whether words have these states.
 fn tells(rt: &impl Abort, alloc: Global, cache: &Cache, told: &[Told]) -> bool {
     for (letters, stands) in told {
         if cache.known(&word(rt, alloc, letters)) != *stands {
@@ -338,7 +338,7 @@ fn is_sul_stop(stop: &GrowStop, number: u32) -> bool {
     }
 }
 
-/// Whether a stop is a crowd of no words.
+/// Whether a stop is one of too many states, with no words.
 fn is_empty_crowd(stop: &GrowStop) -> bool {
     match stop {
         GrowStop::Crowd(words) => words.len() == 0,

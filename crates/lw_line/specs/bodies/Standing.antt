@@ -1,4 +1,4 @@
--- How a child system stands.
+-- The state of a child system.
 use Rattle.std.specs.Prelude.{◌≡◌, ℕ, List, [], ◌∷◌, ◌++◌, Bool, true, false, Option, Some, None}
 use Rattle.std.specs.List.{All}
 use Rattle.std.specs.Str.Lines.{strip_carriage_return}
@@ -37,12 +37,12 @@ pub record IsLive (inputs names : List (List ℕ)) (started : Bool) (held : List
   pub plain_answers : All NoFeed answers
   pub spells : Spells inputs names [] lines answers runs
 
--- what is told of the link of a system that hasn't stopped
+-- what is observed of the link of a system that hasn't stopped
 abbrev pub IsToldLive : (inputs names : List (List ℕ)) → Bool → List ℕ → Option Transcript → Type 0
 IsToldLive inputs names started held None = Unit {0}
 IsToldLive inputs names started held (Some t) = IsLive inputs names started held t
 
--- what is told of the link of a system, until it stops and from then on
+-- what is observed of the link of a system, until it stops and from then on
 abbrev pub IsTold : (inputs names : List (List ℕ)) (most faults : ℕ) → Bool → List ℕ → Option SulStop → (cut : Bool) → Option Transcript → Type 0
 IsTold inputs names most faults started held None cut told = IsToldLive inputs names started held told
 IsTold inputs names most faults started held (Some stop) cut told = IsTranscriptOf inputs names most faults (Some stop) cut told

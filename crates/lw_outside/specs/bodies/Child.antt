@@ -16,7 +16,7 @@ abbrev pub IsFirstLine : Option (List ℕ) → List ℕ → Type 0
 IsFirstLine None bytes = lines_of bytes ≡ []
 IsFirstLine (Some line) bytes = (length line < length bytes) × ((more : List ℕ) → split_bytes (bytes ++ more) ≡ record { lines = line ∷ lines_of (drop (length line + 1) bytes ++ more); rest = rest_of (drop (length line + 1) bytes ++ more) })
 
--- what a child that plays a machine answers from a state on, after so many lines, unless it has ended
+-- what a child that plays a machine answers from a state on, after this many lines, unless it has ended
 abbrev pub answers_from : Machine → Bool → ℕ → ℕ → List ℕ → List ℕ
 answers_from m true q n bytes = []
 answers_from m false q n bytes = ended_lines (played_from m q n (lines_of bytes) (rest_of bytes)).answers
@@ -47,7 +47,7 @@ IsAnswer m (Out y) line = line ≡ Some (out_line (slice_index_or m.outputs y []
 IsAnswer m Quit line = line ≡ None
 IsAnswer m Refused line = line ≡ None
 
--- a line at the front of some bytes was played, which are read up to the rest of them
+-- a line at the start of some bytes was played, which are read up to the rest of them
 pub record PlaysLine (line : List ℕ) (before now : Served) : Type 0 where
   pub machine : now.machine ≡ before.machine
   pub read : now.read ≡ before.read

@@ -2,7 +2,7 @@
 use Rattle.std.specs.Prelude.{◌≡◌, ℕ, ◌≤◌, ◌-◌, [], vec_capacity, vec_len}
 use Rattle.lw_outside.specs.declared.memory_link.LinkParts.{LinkParts}
 
--- nothing was sent or received, and so many bytes of each have room
+-- nothing was sent or received, and this many bytes of each have room
 pub record HasRoom (room : ℕ) (parts : LinkParts) : Type 0 where
   pub unsent : parts.sent.items ≡ []
   pub unreceived : parts.received.items ≡ []

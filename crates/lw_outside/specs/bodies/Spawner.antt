@@ -4,7 +4,8 @@ use Rattle.std.specs.List.{All, AllPairs}
 use Rattle.lw_outside.specs.Links.{Transcript}
 use Rattle.lw_outside.specs.Memory.{HasHeard, MemoryLinkState, transcript_of}
 
--- so many links were started; these of them were retired, none twice; there is room for the transcripts of all of them
+-- this many links were started; these of them were retired, none twice; there is room for the transcripts of all of
+-- them
 pub record KeepsRetired (started capacity : ℕ) (retired : List MemoryLinkState) (transcripts : List Transcript) : Type 0 where
   pub told : transcripts ≡ map transcript_of retired
   pub heard : All HasHeard retired

@@ -172,7 +172,7 @@ fn an_acceptor_file_that_is_none_is_refused(rt: HostRuntime) {
 }
 
 /// How many letters the system has that a table file says, by what is to be learned, or why there is none. The file `s` is the
-/// machine in the place of the acceptor `e`.
+/// machine in place of the acceptor `e`.
 fn found_for(rt: &impl Abort, alloc: Global, goal: Goal, name: &str) -> Result<u16, NoSystem> {
     let mut files = files_with(rt, alloc, EVEN_MACHINE);
     let Found { system, hint } = find_for(alloc, goal, Source::Table, name, &mut files);

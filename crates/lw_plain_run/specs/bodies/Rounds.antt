@@ -30,13 +30,13 @@ pub record IsLarge (task : Task) (before now : PlainTable) (model : Rows) (numbe
   pub large : greatest_suite < number
   pub is : now ≡ before
 
--- what a round comes to
+-- the result of a round
 abbrev pub IsRound : Task → MealyMachine → PlainTable → PlainTable → Round → Type 0
 IsRound task m before now Refined = IsRefined task before now
 IsRound task m before now (Sure model) = IsAlike m model × IsSure task before now model.rows
 IsRound task m before now (TooLarge model number) = IsAlike m model × IsLarge task before now model.rows number
 
--- what rounds come to, that began with a table
+-- the result of rounds that began with a table
 abbrev pub IsEnded : Task → MealyMachine → PlainTable → PlainTable → Ended → Type 0
 IsEnded task m start now (Learned model refinements) = IsAlike m model × ((before : PlainTable) × IsRefinedTimes task refinements start before × IsSure task before now model.rows)
 IsEnded task m start now (Crowd word) = (refinements : ℕ) × IsRefinedTimes task refinements start now × (new_row_of task now ≡ Some word)

@@ -1,4 +1,4 @@
--- Answers under the instance 16, numbered by their places.
+-- Prior answers, under the number 16 and the runs of their places.
 use Rattle.std.specs.Prelude.{ℕ, ◌+◌, List, [], ◌∷◌}
 use Rattle.lw_words.specs.declared.kept.KeptAnswer.{KeptAnswer}
 

@@ -11,7 +11,7 @@ use Rattle.lw_cache.specs.Known.{IsKnown, Reads}
 abbrev pub AgreesOn : Rows → List Answer → List ℕ → Type 0
 AgreesOn h ks w = Reads ks w (answer h w)
 
--- the shortest front of a word on which the machine differs: it ends with the place at which it does
+-- the shortest prefix of a word on which the machine differs: it ends with the place at which it does
 pub record IsShortest (h : Rows) (ks : List Answer) (word front : List ℕ) : Type 0 where
   pub place : ℕ
   pub within : place < length word
@@ -33,11 +33,11 @@ FindsShortest h ks word found = MatchOption found (AgreesOn h ks word) (IsShorte
 abbrev pub FindsFirst : Rows → List Answer → List (List ℕ) → Option (List ℕ) → Type 0
 FindsFirst h ks words found = MatchOption found (All (AgreesOn h ks) words) (IsFirstShortest h ks words)
 
--- the words are known, and the machine gives the answers
+-- the words are known, and the machine agrees with the answers
 pub record Passes (h : Rows) (ks : List Answer) (words : List (List ℕ)) : Type 0 where
   pub gives : Gives h ks
   pub known : All (IsKnown ks) words
 
--- what a suite comes to: a word on which the machine differs, or that it passes
+-- the result of a suite: a word on which the machine differs, or that it passes
 abbrev pub Comes : Rows → List Answer → List (List ℕ) → Option (List ℕ) → Type 0
 Comes h ks words found = MatchOption found (Passes h ks words) (Differs h ks)

@@ -1,4 +1,4 @@
--- The rounds: what is so of an oracle and a learner between them, and what a test comes to.
+-- The rounds: what is so of an oracle and a learner between them, and the result of a test.
 use Rattle.std.specs.Prelude.{◌≡◌, ℕ, ◌+◌, ◌-◌, ◌<◌, ◌≤◌, List, length, Result, OnOk, IfErr}
 use Rattle.lw_words.specs.Word.{Answer, answers_of}
 use Rattle.lw_mealy.specs.Machine.{MealyMachine}
@@ -26,7 +26,7 @@ use Rattle.lw_rounds.specs.declared.stops.LearnStop.TheVariants as learn
 use Rattle.lw_rounds.specs.declared.hypothesis.Tested.{Tested}
 use Rattle.lw_rounds.specs.declared.hypothesis.Tested.TheVariants as tested
 
--- so many words are pairwise apart
+-- this many words are pairwise apart
 pub record HasCrowd (ks : List Answer) (n : ℕ) : Type 0 where
   pub words : List (List ℕ)
   pub crowd : IsCrowd ks words
@@ -38,12 +38,12 @@ pub record IsSureOf (h : MealyMachine) (method : Method) (k : ℕ) (ks : List An
   pub enough : IsEnoughFor method h.inputs k ks model
   pub canonical : IsCanonical h.inputs h.rows model.rows
 
--- what a test comes to: a known word on which the machine differs, or its canonical form, which is certified
+-- the result of a test: a known word on which the machine differs, or its canonical form, which is certified
 abbrev pub IsTested : MealyMachine → Method → ℕ → List Answer → Tested → Type 0
 IsTested h method k ks (tested.Differs word) = Differs h.rows ks word
 IsTested h method k ks (tested.Sure model) = IsSureOf h method k ks model
 
--- what is so where a test of a machine of n states stops; it finds no crowd
+-- what is so where a test of a machine of n states stops; it never stops by too many states
 abbrev pub StopsTest : ℕ → ℕ → ℕ → ℕ → List Answer → LearnStop → Type 0
 StopsTest a b k n ks (learn.Ask stop) = Unit {0}
 StopsTest a b k n ks (learn.Crowd words) = ⊥

@@ -1,4 +1,4 @@
--- Classes of states by the words of at most so many letters.
+-- Classes of states by the words of at most this many letters.
 -- Source: the partitions of Moore (1956).
 use Rattle.std.specs.Prelude.{◌≡◌, ◌≢◌, ℕ, zero, suc, ◌<◌, ◌≤◌, ◌⊎◌}
 use Rattle.std.specs.Prelude.{List, [], length, slice_index, slice_index_or}
@@ -6,16 +6,16 @@ use Rattle.lw_words.specs.Word.{IsWord}
 use Rattle.lw_mealy.specs.Machine.{Rows, IsMachine, out, next, output}
 use Rattle.lw_separate.specs.bodies.Renaming.{NamesStates}
 
--- the outputs of two states on each word of at most so many letters are equal
+-- the outputs of two states on each word of at most this many letters are equal
 abbrev pub AgreeUpTo : ℕ → Rows → ℕ → ℕ → ℕ → Type 0
 AgreeUpTo a m letters p q = (w : List ℕ) → IsWord a w → length w ≤ letters → out m p w ≡ out m q w
 
--- on some word of at most so many letters they differ
+-- on some word of at most this many letters they differ
 abbrev pub DifferWithin : ℕ → Rows → ℕ → ℕ → ℕ → Type 0
 DifferWithin a m letters p q = (w : List ℕ) × IsWord a w × (length w ≤ letters)
     × (out m p w ≢ out m q w)
 
--- the shortest words on which two states differ have so many letters; of no letter nothing is said
+-- the shortest words on which two states differ have this many letters; of no letter nothing is said
 abbrev pub AreApartBy : ℕ → Rows → ℕ → ℕ → ℕ → Type 0
 AreApartBy a m zero p q = Unit {0}
 AreApartBy a m (suc fewer) p q = AgreeUpTo a m fewer p q × DifferWithin a m (suc fewer) p q
@@ -26,7 +26,7 @@ pub record AreNamed (m : Rows) (classes : List ℕ) : Type 0 where
   pub low : (q : ℕ) → q < length m → slice_index classes q ≤ q
 
 -- the class of a state is the least state that agrees with it
--- on all words of at most so many letters
+-- on all words of at most this many letters
 pub record AreClassesOf (a : ℕ) (m : Rows) (letters : ℕ) (classes : List ℕ) : Type 0 where
   pub named : AreNamed m classes
   pub agrees : (q : ℕ) → q < length m → AgreeUpTo a m letters (slice_index classes q) q

@@ -12,7 +12,7 @@ use Rattle.lw_outside.specs.Streams.{SinkState, SourceState}
 use Rattle.lw_report.specs.declared.outcome.Outcome.{Outcome}
 use Rattle.lw_serve.specs.Outcomes.{served_outcome}
 
--- serving came to this, by its contract, and the call to the outcome
+-- serving ended so, by its contract, and the call with the outcome
 pub record HasServed (m : Machine) (input_before input_now : SourceState) (out_before out_now : SinkState) (outcome : Outcome) : Type 0 where
   pub served : Result Served ServeFault
   pub comes : StandsOrWants (served_outcome served) outcome

@@ -12,7 +12,7 @@ use lw_words::SulStop;
 use std::alloc::Global;
 use std::process::Abort;
 
-/// Whether the kept answer with this number is of this instance, in this run, with these outputs.
+/// Whether the recorded answer with this number is of this instance, in this run, with these outputs.
 fn kept_is(cache: &Cache, i: usize, instance: u32, run: u64, outs: &[u16]) -> bool {
     if i >= cache.kept().len() {
         return false;

@@ -83,7 +83,7 @@ fn a_stop_stays(rt: HostRuntime) {
     assert!(rt; kept.len() == 0);
 }
 
-/// One kept answer with these outputs, each below a bound.
+/// One recorded answer with these outputs, each below a bound.
 fn kept_with(rt: &impl Abort, alloc: Global, outs: &[u16], bound: u16) -> Kept
     ensures { All (λ k. All (λ y. y < bound) k.outs) result.answers }
 {
@@ -101,7 +101,7 @@ fn kept_with(rt: &impl Abort, alloc: Global, outs: &[u16], bound: u16) -> Kept
     kept
 }
 
-/// Whether the one kept answer has these outputs.
+/// Whether the one recorded answer has these outputs.
 fn has_kept(kept: &Kept, outs: &[u16]) -> bool {
     kept.len() == 1 && kept.get(0).outs.as_slice() == outs
 }
@@ -113,7 +113,7 @@ fn are_named(names: &OutNames, first: &str, second: &str) -> bool {
         && names.name(1).as_slice() == second.as_bytes()
 }
 
-/// Names that came as `z`, `a`, what was learned of two outputs, and one kept answer, after the sort.
+/// Names that came as `z`, `a`, what was learned of two outputs, and one recorded answer, after the sort.
 fn sorted(rt: &impl Abort, alloc: Global) -> (OutNames, Learned, Kept) {
     let mut names = falling(rt, alloc);
     assert!(rt; names.is_free() && names.len() == 2);

@@ -79,7 +79,7 @@ impl Watcher for Notes {
     }
 }
 
-/// Whether the kept answers are to words of these numbers of letters, in this order.
+/// Whether the recorded answers are to words of these numbers of letters, in this order.
 fn are_long(kept: &Kept, letters: &[usize]) -> bool {
     let mut right = kept.len() == letters.len();
     for i in 0..kept.len() {
@@ -101,7 +101,7 @@ fn is_found(learned: &Result<Learned, LearnStop>, states: u16, refinements: u32)
     learned.model.states() == states && learned.refinements() == refinements
 }
 
-/// Whether it ended with a crowd of so many words.
+/// Whether it ended with this many pairwise apart words.
 fn is_crowd(learned: &Result<Learned, LearnStop>, count: usize) -> bool {
     match learned {
         Err(LearnStop::Crowd(words)) => words.len() == count,

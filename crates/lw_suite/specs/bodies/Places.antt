@@ -23,6 +23,6 @@ pub record IsPlace (p : Parts) (at : Place) : Type 0 where
   pub end : at.end < length (ends p)
   pub within : number_of p at ≤ length p.access * p.middles * length (ends p)
 
--- the front of the word at the place, where there is one
+-- the prefix of the word at the place, where there is one
 abbrev pub IsFront : Parts → Place → List ℕ → Type 0
 IsFront p at front = at.front < length p.access * p.middles → front ≡ slice_index_or (fronts p) at.front []

@@ -17,7 +17,7 @@ pub record AreSingles (row : List (List ℕ)) (many : ℕ) (outs : List ℕ) : T
   pub count : length outs ≡ many
   pub each : (k : ℕ) → k < many → slice_index_or row k [] ≡ slice_index_or outs k 0 ∷ []
 
--- the outputs of the first cells so far, from the last one on: so many cells are left, those of a class
+-- the outputs of the first cells so far, from the last one on: this many cells are left, those of a class
 pub record InSingles (rows : List (List (List ℕ))) (row : List (List ℕ)) (many left class : ℕ) (outs : List ℕ) : Type 0 where
   pub within : class < length rows
   pub size : length (row_of rows class) ≡ left

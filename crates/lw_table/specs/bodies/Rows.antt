@@ -33,7 +33,8 @@ table_of inputs outputs most access suffixes classes rows homes refinements = re
   refinements = refinements;
 }
 
--- class 0 has no cells, and no two classes have one row; each row has a class and so many cells; and the class of each access word's row is found
+-- class 0 has no cells, and no two classes have one row; each row has a class and this many cells; and the class of
+-- each access word's row is found
 pub record AreIndexed (classes : List (List (List ℕ))) (rows : List Row) (homes : List ℕ) (find : ℕ → Option ℕ) : Type 0 where
   pub some : 0 < length classes
   pub first : row_of classes 0 ≡ []

@@ -216,7 +216,7 @@ fn answers_that_fix_an_acceptor(rt: HostRuntime) {
     }
 }
 
-/// A child that plays the machine of this text is learned by a call of `accept` over the setup `m`, which comes to this.
+/// A child that plays the machine of this text is learned by a call of `accept` over the setup `m`, which ends so.
 fn plays<R: Abort + Threads + Wait + Sync + Copy + Drop>(
     rt: &R,
     alloc: Global,

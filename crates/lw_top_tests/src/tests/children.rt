@@ -266,7 +266,7 @@ fn faults_at_each_place(rt: HostRuntime) {
     }
 }
 
-/// What a child says, and what that comes to.
+/// What a child says, and the outcome of that.
 static SAYINGS: [Row; 14] = [
     Row {
         children: Children::Say(""),

@@ -89,7 +89,7 @@ fn models_that_are_learned(rt: HostRuntime) {
     }
 }
 
-/// Whether the kept answers are to words of these numbers of letters, in this order.
+/// Whether the recorded answers are to words of these numbers of letters, in this order.
 fn are_long(kept: &Kept, letters: &[usize]) -> bool {
     let mut right = kept.len() == letters.len();
     for i in 0..kept.len() {

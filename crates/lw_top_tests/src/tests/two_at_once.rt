@@ -61,7 +61,7 @@ impl MeetingLink {
     }
 }
 
-/// Puts the front of the text into the front of the buffer, as much as fits, and says how much.
+/// Puts a prefix of the text into the start of the buffer, as much as fits, and says how much.
 fn put_front(text: &[u8], buffer: &mut [u8]) -> usize
     ensures size { result ≤ length buffer.new }
     ensures within { result ≤ length text.now }

@@ -24,7 +24,7 @@ pub record AreArrivals (t : TreeState) (v : ListsByOwner) : Type 0 where
   pub listed : (k : ℕ) → k < length t.places → owner_of v k ≡ Some (list_of_place (node_at t.nodes) (place_at t.places k))
   pub free : (k : ℕ) → length t.places ≤ k → owner_of v k ≡ None
 
--- the lists of a new tree, for so many states and letters
+-- the lists of a new tree, for this many states and letters
 pub record AreNewArrivals (v : ListsByOwner) (states letters : ℕ) : Type 0 where
   pub owners : length v.lists ≡ states + 1
   pub cells : v.cells ≡ states * letters

@@ -84,7 +84,7 @@ pub record IsOpen (ks : List Answer) (a : ℕ) (access : List (List ℕ)) (first
   pub all : (n : ℕ) → first ≤ n → n < length nodes → IsLive (node_at nodes n).content
   pub childless : (n : ℕ) → 0 < n → IsLive (node_at nodes n).content → (node_at nodes n).parent ≢ c
 
--- the same of nodes behind others, which a tree may have in the place of its own
+-- the same of nodes behind others, which a tree may have in place of its own
 abbrev pub IsSproutOf : List Answer → TreeState → List Node → List Node → List ℕ → ℕ → Type 0
 IsSproutOf ks t base nodes leaves next = IsSprout ks t.inputs t.access (length t.nodes) (base ++ nodes) leaves next
 
@@ -103,7 +103,7 @@ pub record CanPart (ks : List Answer) (access : List (List ℕ)) (leaves : List 
   pub other_there : leaf_at leaves other ≡ c
   pub differ : Separates ks word (word_at access one) (word_at access other)
 
--- a tree's nodes, with a final one in the place of a block's root, and none below it
+-- a tree's nodes, with a final one in place of a block's root, and none below it
 pub record IsCleared (node now : ℕ → Node) (r : ℕ) (word : List ℕ) (marks : List Bool) : Type 0 where
   pub parent : (n : ℕ) → (now n).parent ≡ (node n).parent
   pub branch : (n : ℕ) → (now n).branch ≡ (node n).branch
@@ -124,7 +124,7 @@ cleared (n ∷ nodes) (false ∷ marks) = n ∷ cleared nodes marks
 abbrev pub final_node : Node → List ℕ → Node
 final_node n word = record { parent = n.parent; branch = n.branch; content = Discriminator word false }
 
--- the same, and a final node in the place of the root
+-- the same, and a final node in place of the root
 abbrev pub replaced_root : List Node → ℕ → List ℕ → List Bool → List Node
 replaced_root nodes r word marks = slice_set (cleared nodes marks) r (final_node (node_at (cleared nodes marks) r) word)
 

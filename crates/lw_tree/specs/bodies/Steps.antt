@@ -108,7 +108,7 @@ pub record HasSifted (ks : List Answer) (before : TreeState) (to : ℕ) (now : T
   pub left : (k : ℕ) → to ≤ k → k < length before.places → place_at now.places k ≡ place_at before.places k
   pub moved : (k : ℕ) → k < to → k < length before.places → MovesOn before now k
 
--- out of memory, or a crowd: no stop of the oracle
+-- out of memory, or too many states: no stop of the oracle
 abbrev pub IsOwn : GrowStop → Type 0
 IsOwn (Ask stop) = stop ≡ NoMemory
 IsOwn (Crowd words) = Unit {0}

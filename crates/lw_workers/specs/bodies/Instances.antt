@@ -16,7 +16,7 @@ instance_of t names number = record { instance = number; sul = record { machine 
 abbrev pub AreInstances : MealyMachine → List (List ℕ) → List (SessionState TableSulState) → Type 0
 AreInstances t names sessions = (i : ℕ) (d : SessionState TableSulState) → i < length sessions → slice_index_or sessions i d ≡ instance_of t names i
 
--- a pool of so many instances of a machine, over these names of its outputs, that knows the prior answers alone
+-- a pool of this many instances of a machine, over these names of its outputs, that knows the prior answers alone
 pub record IsPoolOf {S : Type 0} (t : MealyMachine) (instances : ℕ) (names : Naming) (prior : List KeptAnswer) (p : PoolState S) : Type 0 where
   pub inputs : p.inputs ≡ t.inputs
   pub outputs : p.outputs ≡ t.outputs

@@ -102,7 +102,7 @@ fn is_so(comparison: &Comparison, expected: Option<&[u32]>) -> bool {
     }
 }
 
-/// What a comparison comes to: the clauses of `compare_models` would weigh down each proof that calls it.
+/// The outcome of a comparison: the clauses of `compare_models` would weigh down each proof that calls it.
 fn compared(rt: &impl Abort, alloc: Global, one: &Machine, two: &Machine) -> Comparison {
     compare_models(alloc, one, two).expect(rt, "memory")
 }

@@ -21,7 +21,7 @@ use std::thread::Threads;
 const TWO: &str =
     "{\"inputs\":[\"t\"],\"outputs\":[\"0\",\"1\"],\"states\":[[[1,\"0\"]],[[0,\"1\"]]]}\n";
 
-/// What a learning of the table `m` comes to: with the words `w`, where they are there, and a log `l`.
+/// The outcome of a learning of the table `m`: with the words `w`, where they are there, and a log `l`.
 #[derive(Clone, Copy)]
 struct Row {
     words: Option<&'static str>,
@@ -126,7 +126,7 @@ fn status<R: Abort + Threads + Wait + Sync + Copy + Drop>(
     call(rt, alloc, &arguments, outside).status
 }
 
-/// Checks what a call came to, besides its log.
+/// Checks the outcome of a call, besides its log.
 fn check_end(rt: &impl Abort, row: &Row, status: u8, outside: &Outside) {
     assert!(rt; status == row.status && has(&outside.files, "k", row.kept));
     check_text(rt, &outside.out, row.out);

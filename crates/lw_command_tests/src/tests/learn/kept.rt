@@ -33,8 +33,8 @@ enum Child {
     Says(&'static str),
 }
 
-/// What a learning of the setup `s` comes to: with prior answers `p` where they are there, kept answers `k`, and the files `h`
-/// and `a` of the model and its answers where they are asked for.
+/// The outcome of a learning of the setup `s`: with prior answers `p` where they are there, recorded answers `k`, and
+/// the files `h` and `a` of the model and its answers where they are asked for.
 #[derive(Clone, Copy)]
 struct Row {
     prior: Option<&'static str>,
@@ -123,7 +123,7 @@ fn status<R: Abort + Threads + Wait + Sync + Copy + Drop>(
     call(rt, alloc, &arguments, outside).status
 }
 
-/// Checks what a call came to.
+/// Checks the outcome of a call.
 fn check_end(rt: &impl Abort, row: &Row, status: u8, outside: &Outside) {
     let holds = has(&outside.files, "k", row.kept) && has(&outside.files, "h", row.model);
     assert!(rt; holds && status == row.status);
@@ -297,7 +297,7 @@ static FAULTS: [Row; 7] = [
     },
 ];
 
-/// Each row, by what it came to.
+/// Each row, by its outcome.
 fn check_all<R: Abort + Threads + Wait + Sync + Copy + Drop>(rt: R, alloc: Global, rows: &[Row]) {
     for row in rows {
         check(rt, alloc, row);

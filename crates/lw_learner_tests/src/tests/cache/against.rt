@@ -183,7 +183,7 @@ fn keeps_long(rt: &impl Abort, alloc: Global, len: usize, place: usize) -> Cache
     cache
 }
 
-/// Whether the first difference is the front of the word that begins with 0, up to a place.
+/// Whether the first difference is the prefix of the word that begins with 0, up to a place.
 fn is_front(rt: &impl Abort, alloc: Global, cache: &Cache, len: usize, place: usize) -> bool
     requires { All (λ k. IsWord 2 k.word) (answers_of cache.now.kept) }
 {
@@ -191,7 +191,8 @@ fn is_front(rt: &impl Abort, alloc: Global, cache: &Cache, len: usize, place: us
     is_first(rt, cache, &echo(rt, alloc), Some(front.as_slice()))
 }
 
-/// Whether the first difference from answers to two words of this length is the front of the later one up to the place.
+/// Whether the first difference from answers to two words of this length is the prefix of the later one up to the
+/// place.
 fn is_found(rt: &impl Abort, alloc: Global, len: usize, place: usize) -> bool {
     let cache = keeps_long(rt, alloc, len, place);
     is_front(rt, alloc, &cache, len, place)

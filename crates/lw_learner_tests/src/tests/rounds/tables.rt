@@ -90,8 +90,8 @@ static OF_ONE_LETTER: [Case; 5] = [
 
 static OF_MORE_LETTERS: [Case; 2] = [
     // The second suite has a a b a a as the first word on which the machine differs, and it differs at the fourth letter: the
-    // word is cut to its front. A new suffix is asked of the rows by number, whatever the length of their words, and an access
-    // word's cells stand where its word is an extension.
+    // word is cut to its prefix. A new suffix is asked of the rows by number, whatever the length of their words, and
+    // an access word's cells stand where its word is an extension.
     Case {
         name: "a word of the suite is cut to its front, and cells are asked row by row",
         rows: FOUR_STATES,

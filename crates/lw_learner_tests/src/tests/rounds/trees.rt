@@ -118,7 +118,8 @@ static CASES: [Case; 5] = [
         discriminators: &[1, 2, 2],
         ..TREE
     },
-    // The fifth state comes while a block is settled. Where there may be only four, that settling tells the crowd.
+    // The fifth state comes while a block is settled. Where there may be only four, that settling stops with the
+    // pairwise apart words.
     Case {
         name: "a state comes while a block is settled",
         rows: FIVE_STATES,

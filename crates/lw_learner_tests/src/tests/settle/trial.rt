@@ -33,7 +33,7 @@ pub fn split_by<O: Oracle>(
     };
 }
 
-/// Whether a machine gives each kept answer.
+/// Whether a machine agrees with each recorded answer.
 fn gives_all(model: &Mealy, kept: &Kept) -> bool
     requires { All (λ k. IsAnswer model.now.inputs (answer_of k)) kept.now.answers }
     ensures { result ≡ true → All (λ k. answer model.now.rows k.word ≡ k.outs) kept.now.answers }

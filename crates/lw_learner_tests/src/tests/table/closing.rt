@@ -231,7 +231,7 @@ fn an_extension_becomes_an_access_word(rt: HostRuntime) {
     assert!(rt; goes(&rt, rt.alloc(), &TOGGLE));
 }
 
-/// Whether no table of a toggle has one state: these are the words of the crowd.
+/// Whether no table of a toggle has one state: these are the pairwise apart words.
 fn is_crowd(rt: &impl Abort, alloc: Global, expected: &[&[u16]]) -> bool {
     match closed_over(rt, alloc, toggle(rt, alloc), 1) {
         Err(GrowStop::Crowd(words)) => are(&words, expected),

@@ -1,5 +1,5 @@
-//! Children are found by their parent and their outputs: each transition comes to the leaf of its target, and where there is
-//! no child, there is a state more.
+//! Children are found by their parent and their outputs: each transition ends at the leaf of its target, and where
+//! there is no child, there is a state more.
 use super::splits::{Start, split_as};
 use super::{A, Asked, B, NEVER, Shown, has_leaves, has_rows, is_fork, shows};
 use lw_tree::DiscriminationTree;

@@ -44,7 +44,7 @@ fn ask_drawn<O: Oracle>(
     assert!(rt; ask(alloc, oracle, tree, &letters));
 }
 
-/// Splits until the machine gives all that is known, so many times at most.
+/// Splits until the machine agrees with all that is known, so many times at most.
 fn split_all<O: Oracle>(
     rt: &impl Abort,
     alloc: Global,
@@ -67,7 +67,8 @@ fn split_all<O: Oracle>(
     false
 }
 
-/// Asks drawn words of a drawn machine, and splits after each until its tree gives them all: how many states there are then.
+/// Asks drawn words of a drawn machine, and splits after each until its tree agrees with all of them: how many states
+/// there are then.
 fn learn(rt: &impl Abort, alloc: Global, seed: u64) -> u16 {
     let mut numbers = Lcg128Xsl64::seed_from_u64(seed);
     let Ok(mut trial) = closed(alloc, machine(rt, alloc, &mut numbers), 7, NEVER) else {

@@ -14,7 +14,7 @@ use test_tree::{Trial, ask, closed, split_by_known};
 /// How the last split of a tree ends.
 enum End {
     Split,
-    /// With a crowd of these words.
+    /// With these words, which are pairwise apart.
     Crowd(&'static [&'static [u16]]),
     /// Out of memory.
     Refused,

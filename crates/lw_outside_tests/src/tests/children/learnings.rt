@@ -163,7 +163,7 @@ static FOUND: [Found; 4] = [
         refinements: 0,
         sent: b"reset\nin t\nin t\nreset\n",
     },
-    // The words that a table asks are fronts of one that was asked.
+    // The words that a table asks are prefixes of one that was asked.
     Found {
         outputs: None,
         kind: Kind::Table,

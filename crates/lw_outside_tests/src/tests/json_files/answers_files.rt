@@ -226,7 +226,7 @@ fn answers_of(rt: &impl Abort, alloc: Global, text: &str) -> Answers {
     read_answers(alloc, text.as_bytes()).expect(rt, "answers")
 }
 
-/// Whether the kept answer with this number is of this instance and run, to this word with these outputs.
+/// Whether the recorded answer with this number is of this instance and run, to this word with these outputs.
 fn kept_is(kept: &Kept, i: usize, instance: u32, run: u64, word: &[u16], outs: &[u16]) -> bool {
     if i >= kept.len() {
         return false;

@@ -38,7 +38,7 @@ pub struct ScriptedLink {
     sent: Vec<u8>,
 }
 
-/// Copies the front of a text into the front of a buffer, at most a piece, and says how many bytes.
+/// Copies a prefix of a text into the start of a buffer, at most a piece, and says how many bytes.
 fn give(text: &[u8], piece: usize, buffer: &mut [u8]) -> usize
     ensures { (result ≤ length buffer.old) × (result ≤ length text.now) }
 {

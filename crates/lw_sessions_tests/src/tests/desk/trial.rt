@@ -17,7 +17,7 @@ use std::alloc::Global;
 use std::marker::Model;
 use std::process::Abort;
 
-/// How an actor stands: what it holds, whether it has ended, and the names that its own numbers stand for.
+/// The state of an actor: what it holds, whether it has ended, and the names that its own numbers stand for.
 #[derive(Drop)]
 pub struct Standing {
     pub held: Places,
@@ -25,7 +25,7 @@ pub struct Standing {
     pub own: Vec<OutName>,
 }
 
-/// A desk, and how its actors stand.
+/// A desk, and the states of its actors.
 #[derive(Drop)]
 pub struct Trial {
     desk: Desk,

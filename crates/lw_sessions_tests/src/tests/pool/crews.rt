@@ -256,7 +256,7 @@ fn is_answer(rt: &impl Abort, m: &Mealy, k: &KeptAnswer) -> bool {
     outs.as_slice() == k.outs.as_slice()
 }
 
-/// How many of the kept answers are the machine's to this word of four letters.
+/// How many of the recorded answers are the machine's to this word of four letters.
 fn answers_to(rt: &impl Abort, m: &Mealy, kept: &Kept, w: &Word) -> usize {
     let mut count = 0usize;
     for i in 0..kept.len() {

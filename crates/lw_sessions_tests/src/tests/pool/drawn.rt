@@ -68,7 +68,7 @@ fn answers(rt: &impl Abort, m: &Mealy, k: &KeptAnswer, word: &Word) -> bool {
     k.word.as_slice() == word.as_slice() && k.outs.as_slice() == outs.as_slice()
 }
 
-/// How many of the kept answers are the machine's to this word.
+/// How many of the recorded answers are the machine's to this word.
 fn answers_to(rt: &impl Abort, m: &Mealy, kept: &Kept, word: &Word) -> usize {
     let mut count = 0usize;
     for i in 0..kept.len() {

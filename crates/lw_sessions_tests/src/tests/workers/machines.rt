@@ -100,7 +100,8 @@ fn two_extra_states_tell_a_counter_of_three(rt: HostRuntime) {
     }
 }
 
-/// Whether it ended with a crowd of so many words, by the answers to words of these numbers of letters, in this order.
+/// Whether it ended with this many pairwise apart words, by the answers to words of these numbers of letters, in this
+/// order.
 fn has_stopped(ended: &LearningOutcome, count: usize, letters: &[usize]) -> bool {
     is_crowd(&ended.learned, count) && are_long(&ended.kept, letters)
 }
