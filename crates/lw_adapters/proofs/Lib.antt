@@ -1,2 +1,2 @@
 pub mod ByteLemmas
-pub mod Sends
+pub mod Crossing

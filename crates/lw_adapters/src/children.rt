@@ -5,11 +5,13 @@ ghost use Rattle.lw_outside.specs.Links.{LinkState};
 ghost use Rattle.lw_adapters.specs.Recorded.{bytes_of, told_pipes};
 
 use crate::pipe_link::PipeLink;
+use crate::watch::{Sends, Watched};
 use http_server::Log;
 use lw_outside::{Spawner, StartFailure, StartStop, copy_words};
-use std::alloc::Global;
+use std::alloc::{AllocError, Global};
 use std::fs::{self, Files};
 use std::io::{self, ErrorKind, PipeReader, PipeWriter};
+use std::os::fd::AsRawFd;
 use std::process::{Child, Command, Processes, Stdio, SystemProcess};
 
 /// A link to a child program, by its standard input and output.
@@ -33,14 +35,15 @@ pub struct RealSpawner<R> {
     faults: u64,
     cause: StartFailure,
     children: Vec<Child>,
+    sends: Option<Sends>,
     commands: Log<Vec<String>, ()>,
     retired: Log<RealLink, ()>,
     ghost earlier: { All (λ r. r.0.number < started) retired.items },
 }
 
 impl<R: AllocGlobal> RealSpawner<R> {
-    /// Nothing is started yet.
-    pub fn new(rt: R, errors: Errors) -> RealSpawner<R>
+    /// Nothing is started yet. What is sent to children is watched where there is something that does.
+    pub fn new(rt: R, errors: Errors, sends: Option<Sends>) -> RealSpawner<R>
         ensures runtime { result.rt ≡ rt }
         ensures started { result.started ≡ 0 }
         ensures faults { result.faults ≡ 0 }
@@ -55,6 +58,7 @@ impl<R: AllocGlobal> RealSpawner<R> {
             faults: 0,
             cause: StartFailure::Unknown,
             children,
+            sends,
             commands: Log::new(),
             retired: Log::new(),
         }
@@ -99,6 +103,19 @@ fn command_of(alloc: Global, words: &[String], number: u64) -> io::Result<Comman
     Ok(command)
 }
 
+/// The sends of the link of this number, if any are watched.
+fn watched(
+    sends: &Option<Sends>,
+    number: u64,
+    input: &PipeWriter,
+) -> Result<Option<Watched>, AllocError> {
+    let Some(sends) = sends else {
+        return Ok(None);
+    };
+    let pipe = u64::try_from(input.as_raw_fd()).unwrap_or(u64::MAX);
+    Ok(Some(Watched::new(sends.share()?, number, pipe)))
+}
+
 /// Starts a program with a new pipe each for its input and its output. It has no other descriptor, so none of another child's
 /// pipes, but for the standard error that it shares.
 fn start_child<R: Files + Processes<Started = SystemProcess> + AllocGlobal>(
@@ -106,6 +123,7 @@ fn start_child<R: Files + Processes<Started = SystemProcess> + AllocGlobal>(
     words: &[String],
     errors: Errors,
     number: u64,
+    sends: &Option<Sends>,
 ) -> io::Result<(Child, RealLink)>
     ensures counts { IfOk result (λ r. (r.1.number ≡ number) × (r.1.faults ≡ 0) ×
         (r.1.output.ends ≡ 0)) }
@@ -120,8 +138,10 @@ fn start_child<R: Files + Processes<Started = SystemProcess> + AllocGlobal>(
     if errors == Errors::Dropped {
         command.stderr(Stdio::null());
     }
+    let watched = watched(sends, number, &input)?;
     let child = command.spawn(rt)?;
-    Ok((child, PipeLink::new(number, input, output)))
+    let link = PipeLink::watched(number, input, output, watched);
+    Ok((child, link))
 }
 
 /// Whether the program of these words is a folder. A name without a slash is looked for on the path, where folders are passed over.
@@ -176,7 +196,13 @@ impl<R: Files + Processes<Started = SystemProcess> + AllocGlobal> Spawner for Re
         let Some(started) = self.started.checked_add(1) else {
             return Err(StartStop::NoMemory);
         };
-        match start_child(&self.rt, words.as_slice(), self.errors, self.started) {
+        match start_child(
+            &self.rt,
+            words.as_slice(),
+            self.errors,
+            self.started,
+            &self.sends,
+        ) {
             Ok((child, link)) => {
                 let Ok(()) = self.children.push(child) else {
                     unreachable!();

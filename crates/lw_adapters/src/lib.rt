@@ -10,6 +10,7 @@ mod pace;
 mod pipe_link;
 mod record;
 mod streams;
+mod watch;
 mod writing;
 
 pub use children::{Errors, RealLink, RealSpawner};
@@ -18,6 +19,7 @@ pub use log::RealLog;
 pub use names::{TwoNames, is_among, two_names};
 pub use pipe_link::PipeLink;
 pub use streams::{Input, Stream};
+pub use watch::Sends;
 
 #[cfg(test)]
 mod tests;

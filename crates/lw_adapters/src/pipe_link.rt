@@ -4,6 +4,7 @@ ghost use Rattle.lw_adapters.specs.Recorded.{bytes_of};
 
 use crate::pace::Pace;
 use crate::streams::{Input, Stream};
+use crate::watch::Watched;
 use lw_outside::{Failed, Link, Source, put_all};
 use std::io::{Read, Write};
 
@@ -18,8 +19,25 @@ pub struct PipeLink<W: Write, R: Read> {
 }
 
 impl<W: Write, R: Read> PipeLink<W, R> {
-    /// The link of this number, over which nothing went so far.
+    /// The link of this number, over which nothing went so far. Its sends aren't watched.
     pub fn new(number: u64, input: W, output: R) -> PipeLink<W, R>
+        ensures wrapped { (result.input.stream ≡ input) × (result.output.stream ≡ output) }
+        ensures starts { (result.input.start.value ≡ input) × (result.output.start.value ≡ output) }
+        ensures number { result.number ≡ number }
+        ensures faults { result.faults ≡ 0 }
+        ensures ends { result.output.ends ≡ 0 }
+        ensures untouched { (bytes_of result.input.taken.items ≡ []) × (bytes_of result.output.given.items ≡ []) }
+    {
+        PipeLink::watched(number, input, output, None)
+    }
+
+    /// The same of a link whose sends are watched where there are marks for them.
+    pub(crate) fn watched(
+        number: u64,
+        input: W,
+        output: R,
+        watched: Option<Watched>,
+    ) -> PipeLink<W, R>
         ensures wrapped { (result.input.stream ≡ input) × (result.output.stream ≡ output) }
         ensures starts { (result.input.start.value ≡ input) × (result.output.start.value ≡ output) }
         ensures number { result.number ≡ number }
@@ -31,7 +49,7 @@ impl<W: Write, R: Read> PipeLink<W, R> {
             number,
             input: Stream::new(input),
             output: Input::new(output),
-            pace: Pace::new(),
+            pace: Pace::new(watched),
             faults: 0,
         }
     }
@@ -43,13 +61,15 @@ impl<W: Write, R: Read> Link for PipeLink<W, R> {
     ghost state = { λ l. told_pipes l.number l.faults l.output.ends l.input.taken.items
         l.output.given.items };
 
-    /// Fails too where the other end says line after line that it wasn't sent for, before the pipe to it is full.
+    /// Fails too where the other end says line after line that it wasn't sent for, before the pipe to it is full, and behind a
+    /// send that waited too long at a full pipe.
     fn send(&mut self, bytes: &[u8]) -> Result<(), Failed> {
         if !self.pace.sends(bytes) {
             self.faults = self.faults.saturating_add(1);
             return Err(Failed);
         }
         let sent = put_all(&mut self.input, bytes);
+        self.pace.ended();
         if sent.is_err() {
             self.faults = self.faults.saturating_add(1);
         }

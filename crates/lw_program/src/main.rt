@@ -2,17 +2,20 @@
 //! with the call's status.
 #![tactic(auto)]
 
-use lw_adapters::{Errors, Input, RealFiles, RealLog, RealSpawner, Stream, is_among, two_names};
+use lw_adapters::{
+    Errors, Input, RealFiles, RealLog, RealSpawner, Sends, Stream, is_among, two_names,
+};
 use lw_learn::LearnArguments;
 use lw_log::Log;
 use lw_outside::{Sink, World, put_all};
 use lw_top::{accept_arguments, learn_arguments, run, without_arguments};
 use std::alloc::Global;
-use std::env;
 use std::fs::{self, File};
 use std::io::{self, ErrorKind};
 use std::os::fd::AsRawFd;
 use std::process::ExitCode;
+use std::thread::Threads;
+use std::{env, thread};
 
 /// The arguments of the command line after the program's own name; none where they aren't text.
 fn arguments(rt: &HostRuntime) -> io::Result<Vec<String>> {
@@ -81,6 +84,14 @@ fn refuse<E: Sink>(rt: &HostRuntime, arguments: &[String], err: &mut E) -> Optio
     Some(2)
 }
 
+/// What is sent to children, with a thread that looks at it as long as the program runs; nothing where there can be no such thread.
+fn watched(threads: &impl Threads, rt: HostRuntime) -> Option<Sends> {
+    let sends = Sends::new(rt.alloc()).ok()?;
+    let theirs = sends.share().ok()?;
+    let _watcher = thread::spawn(threads, move || theirs.watch(&rt)).ok()?;
+    Some(sends)
+}
+
 fn main(rt: HostRuntime) -> ExitCode {
     let alloc: Global = rt.alloc();
     // What is opened takes the least number that is free. Where standard streams are closed the folder takes theirs, so that no
@@ -93,7 +104,7 @@ fn main(rt: HostRuntime) -> ExitCode {
     };
     let mut world = World {
         files: RealFiles::new(rt),
-        spawner: RealSpawner::new(rt, errors),
+        spawner: RealSpawner::new(rt, errors, watched(&rt, rt)),
         input: Input::new(rt.stdin()),
         out: Stream::new(rt.stdout()),
         err: Stream::new(rt.stderr()),

@@ -1,6 +1,6 @@
 use denote.Exit.{no}
 use denote.Param.Send.{param_send, arg_send}
-use Rattle.lw_adapters.proofs.Sends.{real_link_send}
+use Rattle.lw_adapters.proofs.Crossing.{real_link_send}
 use Rattle.lw_program.proofs.main.Goals as goal
 
 pub run-requires-send-P-Link : goal.run-requires-send-P-Link
