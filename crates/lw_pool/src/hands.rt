@@ -228,7 +228,8 @@ fn run_threads<S: Sul + Send, R: Threads + Wait + Sync>(
     thread::for_each_mut(rt, hands, threads, &run);
 }
 
-/// Runs this many hands at once, and then the others one after the other.
+/// Runs this many hands at once, and then the others one after the other. Hands whose systems never wait are run one after the
+/// other, all of them: the first works the batch off.
 fn run_all<S: Sul + Send, R: Threads + Wait + Sync>(
     rt: &R,
     alloc: Global,
@@ -243,7 +244,7 @@ fn run_all<S: Sul + Send, R: Threads + Wait + Sync>(
     ensures run { AllRun (λ p. p.turnstile ≡ turnstile.now) hands.old hands.new }
     ensures length { length hands.new ≡ length hands.old }
 {
-    if busy <= 1 {
+    if busy <= 1 || !S::WAITS {
         run_each(rt, alloc, turnstile, batch, crew, hands);
         return;
     }

@@ -13,6 +13,10 @@ use lw_words::SulStop;
 pub trait Sul {
     ghost state: { Self → SulState };
 
+    /// Whether a call may wait for something else, as for a program. Where none does, threads of their own would only cost: a
+    /// pool asks such systems one after the other.
+    const WAITS: bool = true;
+
     fn inputs(&self) -> u16
         ensures { result ≡ (state self.now).inputs };
 

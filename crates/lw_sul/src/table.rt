@@ -56,6 +56,8 @@ impl Sul for TableSul {
 
     ghost state = { told_table };
 
+    const WAITS: bool = false;
+
     fn inputs(&self) -> u16 {
         self.mealy.inputs()
     }
