@@ -1,15 +1,26 @@
 #!/usr/bin/env python3
-"""Says whether the letters since the last reset, put together, match a pattern: `?` is answered by `yes` or `no`, all else by `ok`."""
+"""Says whether the letters since the reset, put together, match a pattern: `?` is answered by `yes` or `no`, others by `ok`."""
 import re
-import sys
 
-text = ""
-for line in sys.stdin:
-    letter = line.removeprefix("in ").strip()
-    if letter == "reset":
-        text, answer = "", "ready"
-    elif letter == "?":
-        answer = "out yes" if re.fullmatch(sys.argv[1], text) else "out no"
-    else:
-        text, answer = text + letter, "out ok"
-    print(answer, flush=True)
+import adapter
+
+
+class Matcher(adapter.Adapter):
+    arguments = ("PATTERN",)
+
+    def __init__(self, pattern):
+        self.pattern = re.compile(pattern)
+
+    def reset(self):
+        self.text = ""
+
+    def step(self, letter):
+        answer = "ok"
+        if letter == "?":
+            answer = "yes" if self.pattern.fullmatch(self.text) else "no"
+        else:
+            self.text += letter
+        return answer
+
+
+Matcher.main()

@@ -1,25 +1,28 @@
 #!/usr/bin/env python3
 """The transactions of a store, as one client sees them: what was watched and then set by another makes `exec` do nothing."""
-import sys
+import adapter
 
-queueing, watch = False, "none"
-for line in sys.stdin:
-    letter = line.removeprefix("in ").strip()
-    answer = "out ok"
-    if letter == "reset":
-        answer = "ready"
-        queueing, watch = False, "none"
-    elif letter == "other-set":
-        watch = "broken" if watch == "kept" else watch
-    elif queueing != (letter in ("exec", "discard")):
-        answer = "out refused"
-    elif letter == "multi":
-        queueing = True
-    elif letter == "watch":
-        watch = "kept" if watch == "none" else watch
-    elif letter in ("exec", "discard"):
-        answer = "out nothing" if letter == "exec" and watch == "broken" else answer
-        queueing, watch = False, "none"
-    else:
-        sys.exit(1)
-    print(answer, flush=True)
+
+class Store(adapter.Adapter):
+    def reset(self):
+        self.is_queueing, self.watch = False, "none"
+
+    def step(self, letter):
+        if letter == "other-set":
+            self.watch = "broken" if self.watch == "kept" else self.watch
+        elif self.is_queueing != (letter in ("exec", "discard")):
+            return "refused"
+        elif letter == "multi":
+            self.is_queueing = True
+        elif letter == "watch":
+            self.watch = "kept" if self.watch == "none" else self.watch
+        elif letter in ("exec", "discard"):
+            is_spoiled = letter == "exec" and self.watch == "broken"
+            self.reset()
+            return "nothing" if is_spoiled else "ok"
+        else:
+            return None
+        return "ok"
+
+
+Store.main()

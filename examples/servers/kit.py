@@ -1,4 +1,5 @@
-"""What adapters share: the learner's lines, names of outputs, and a server's silence without a wait.
+"""What adapters of servers share: connections, and a server's silence without a wait. The learner's lines and the names of outputs
+are those of `adapter.py` in the folder above.
 
     with Server(command) as server:
         kit.run(Adapter(server))
@@ -8,27 +9,27 @@ An adapter has two calls: `reset()`, which begins anew on a fresh `Connection`, 
 Whether a server has said all that it will say is decided in one of two ways, and never by the clock. Where the protocol has a
 ping, send it behind the letter, and take all that comes before its answer: `send`, then `read_until`. Else `answer` asks the
 system: the server has read every byte that was sent, every byte that it sent is here, and all its threads sleep at one moment.
-One that sleeps for a time in one of the usual calls is waited for until it has slept so once and said nothing; this is slow, and a ping is better. Other clocks are not seen: a timer of its own (setitimer, timerfd), a limit that a socket has. A server
-that answers later all the same is misread; what it says before the next letter or reset ends the adapter, since a wrong model is
-worse than none.
+One that sleeps for a time in one of the usual calls is waited for until it has slept so once and said nothing; this is slow, and a
+ping is better. Other clocks are not seen: a timer of its own (setitimer, timerfd), a limit that a socket has. A server that answers
+later all the same is misread; what it says before the next letter or reset ends the adapter, since a wrong model is worse than none.
 
 Needs Linux, for what it tells of threads and sockets.
 """
 import functools
-import hashlib
 import os
 import select
 import socket
 import struct
 import sys
 
+sys.path.insert(1, os.path.dirname(os.path.dirname(os.path.abspath(__file__))))
+import adapter
+from adapter import Stop
 from server import HOST, look
 
 # The number of this child among those of its learner: in names, it keeps the children of one server apart.
 INSTANCE = os.environ.get("NOFJAND_INSTANCE", "0")
-LONGEST_NAME = 64
 SHORTEST_REST, LONGEST_REST = 0.0001, 0.005
-OUTPUT = 1
 # System calls that may wait for a time, each with the place of the argument that limits it: poll, select, epoll_wait, epoll_pwait,
 # ppoll, pselect6, futex, rt_sigtimedwait; and nanosleep, clock_nanosleep and rt_sigsuspend, which wait for nothing else.
 ALWAYS = None
@@ -41,39 +42,16 @@ SIGNALS = (130, 133)
 NO_LIMIT = (0, 0xFFFFFFFF, 0xFFFFFFFFFFFFFFFF)
 
 
-class Stop(Exception):
-    """The adapter ends, for a reason that is told on standard error."""
-
-
 def run(system):
     """Answers the learner's lines until its input ends. Where it has to stop, it tells the letters since the last reset."""
-    letters = []
-    try:
-        for line in iter(sys.stdin.buffer.readline, b""):
-            command, _, letter = line.decode("ascii").rstrip("\r\n").partition(" ")
-            if command == "reset":
-                letters.clear()
-                system.reset()
-                answer = "ready"
-            elif command == "in":
-                letters.append(letter)
-                answer = "out " + system.step(letter)
-            else:
-                raise Stop(f"no line of a learner: {line!r}")
-            os.write(OUTPUT, answer.encode("ascii") + b"\n")
-    except KeyboardInterrupt:
-        sys.exit(1)
-    except Exception as reason:
-        told = reason if isinstance(reason, (Stop, OSError)) else repr(reason)
-        sys.exit(f"{sys.argv[0]}: {told}; letters since the reset: {' '.join(letters) or 'none'}")
+    status = adapter.run(system)
+    if status:
+        sys.exit(status)
 
 
 def name(parts):
-    """The name of an output that has these parts, in their order. A long one keeps its front and ends in a digest."""
-    text = "+".join(parts) or "silence"
-    if len(text) > LONGEST_NAME:
-        text = text[:LONGEST_NAME - 13] + "~" + hashlib.sha256(text.encode()).hexdigest()[:12]
-    return text
+    """The name of an output that has these parts, in their order."""
+    return adapter.name("+".join(parts))
 
 
 class Connection:
@@ -187,8 +165,8 @@ def expect_reader(milliseconds, *streams):
     poll = select.poll()
     for stream in streams:
         poll.register(stream, select.POLLIN)
-    poll.register(OUTPUT, 0)
-    if any(number == OUTPUT for number, _ in poll.poll(milliseconds)):
+    poll.register(adapter.answers_file, 0)
+    if any(number == adapter.answers_file for number, _ in poll.poll(milliseconds)):
         raise Stop("the learner has ended")
 
 
