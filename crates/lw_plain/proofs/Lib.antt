@@ -5,3 +5,4 @@ pub mod KnownLemmas
 pub mod TakenLemmas
 pub mod TestedLemmas
 pub mod CutLemmas
+pub mod TurnLemmas
