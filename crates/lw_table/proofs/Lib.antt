@@ -9,6 +9,9 @@ mod IndexLemmas
 pub mod MachineLemmas
 pub mod NewLemmas
 mod NumberedLemmas
+mod OpenLemmas
+mod PlainCloseLemmas
+mod PlainLemmas
 mod RefineLemmas
 mod RowLemmas
 mod StepLemmas
