@@ -6,3 +6,4 @@ pub mod TakenLemmas
 pub mod TestedLemmas
 pub mod CutLemmas
 pub mod TurnLemmas
+pub mod RoundLemmas

@@ -9,9 +9,9 @@ mod IndexLemmas
 pub mod MachineLemmas
 pub mod NewLemmas
 mod NumberedLemmas
-mod OpenLemmas
+pub mod OpenLemmas
 mod PlainCloseLemmas
-mod PlainLemmas
+pub mod PlainLemmas
 mod RefineLemmas
 mod RowLemmas
 mod StepLemmas

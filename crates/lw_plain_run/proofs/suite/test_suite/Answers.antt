@@ -6,7 +6,7 @@ use Rattle.lw_plain.specs.Table.{with_batches}
 use Rattle.lw_plain.specs.Tested.{FindsFirst, FailsAt}
 use Rattle.lw_plain_run.specs.bodies.Tables.{IsOver}
 use Rattle.lw_plain_run.proofs.ListLemmas.{fewer, none_left}
-use Rattle.lw_plain_run.proofs.RoundLemmas.{same_table}
+use Rattle.lw_plain.proofs.RoundLemmas.{same_table}
 use Rattle.lw_plain.proofs.TestedLemmas.{tested_more, tested_all, tested_fails}
 use Rattle.lw_plain_run.proofs.TableLemmas.{over_batches}
 use Rattle.lw_plain_run.proofs.suite.test_suite.Goals as goal
