@@ -7,3 +7,4 @@ pub mod TestedLemmas
 pub mod CutLemmas
 pub mod TurnLemmas
 pub mod RoundLemmas
+pub mod OrderLemmas

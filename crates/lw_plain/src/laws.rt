@@ -2,7 +2,7 @@
 ghost use Rattle.lw_plain.specs.Ends.{OnePlainEnd};
 ghost use Rattle.lw_plain.specs.Known.{NothingKnown, BatchIsKnown, KnownOutputs, FirstIsRevealed};
 ghost use Rattle.lw_plain.specs.Laws.{CellsAreAsked, CrowdIsFull, SearchFinds};
-ghost use Rattle.lw_plain.specs.Taken.{AskedAreTaken, TakesOnAndOn};
+ghost use Rattle.lw_plain.specs.Taken.{AskedAreTaken, TakesOnAndOn, TakenIsOne};
 ghost use Rattle.lw_plain.specs.Turns.{SettledIsAsked, AsksOnAndOn};
 ghost use Rattle.lw_plain.specs.Worked.{WorkedTables};
 
@@ -69,4 +69,9 @@ pub fn settled_is_asked()
 /// What is asked behind other batches comes behind what was asked for these.
 pub fn asks_on_and_on()
     ensures { AsksOnAndOn }
+{}
+
+/// What is taken from batches in turn is one, but for the order.
+pub fn taken_is_one()
+    ensures { TakenIsOne }
 {}

@@ -5,11 +5,14 @@ use Rattle.lw_words.specs.declared.kept.KeptAnswer.{KeptAnswer}
 use Rattle.lw_mealy.specs.Machine.{Rows}
 use Rattle.lw_cache.specs.Settling.{OracleState}
 use Rattle.lw_chunks.specs.declared.method.Method.{Method}
+use Rattle.lw_plain.specs.Ends.{Learned as PlainLearned}
 use Rattle.lw_plain.specs.Known.{KnowsWords}
 use Rattle.lw_plain.specs.Table.{unless_empty}
 use Rattle.lw_plain.specs.Taken.{AreTakenInTurn}
 use Rattle.lw_plain.specs.Turns.{AsksInTurn, AsksBatch}
 use Rattle.lw_plain.proofs.KnownLemmas.{nothing_known}
+use Rattle.lw_plain.proofs.OneLemmas.{one_plain_end}
+use Rattle.lw_plain.proofs.OrderLemmas.{taken_is_one}
 use Rattle.lw_plain.proofs.TurnLemmas.{asks_on, asks_nothing, plain_first, plain_next}
 use Rattle.lw_pool.specs.Pool.{PoolState}
 use Rattle.lw_pool.specs.Sharing.{oracle_of}
@@ -18,7 +21,7 @@ use Rattle.lw_rounds.specs.Plain.{LearnsAsPlain}
 use Rattle.lw_rounds.specs.declared.learned.Learned.{Learned}
 use Rattle.lw_rounds.specs.declared.learner.Kind.{Kind}
 use Rattle.lw_rounds.specs.declared.stops.LearnStop.{LearnStop}
-use Rattle.lw_workers.specs.Plain.{RunsAsPlain}
+use Rattle.lw_workers.specs.Plain.{RunsAsPlain, RunsAreOne}
 use Rattle.lw_workers.specs.bodies.Plain.{AsksGiven, LearnsGiven}
 
 -- no words are no batch
@@ -62,6 +65,9 @@ runs_as_plain of_kind suites a k most given before now (Ok l) learns is_table by
 pub none_learned : (of_kind : Kind) (suites : Method) (a k most : ℕ) (given : List (List ℕ)) (stop : LearnStop) (prior kept : List KeptAnswer) → RunsAsPlain of_kind suites a k most given (Err stop) prior kept
 none_learned of_kind suites a k most given stop prior kept is_table by_w none m gives = tt
 
+pub plain_never : (of_kind : Kind) (suites : Method) (a k most : ℕ) (given : List (List ℕ)) (r : Result Learned LearnStop) (stop : LearnStop) (prior kept : List KeptAnswer) → r ≡ Err stop → RunsAsPlain of_kind suites a k most given r prior kept
+plain_never of_kind suites a k most given r stop prior kept is = subst (λ (x : Result Learned LearnStop). RunsAsPlain of_kind suites a k most given x prior kept) (sym is) (none_learned of_kind suites a k most given stop prior kept)
+
 -- under other names for the letters, the words and what is kept
 pub runs_as : (of_kind : Kind) (suites : Method) (a b k most : ℕ) (given words : List (List ℕ)) (r : Result Learned LearnStop) (prior was kept is : List KeptAnswer) → a ≡ b → given ≡ words → prior ≡ was → kept ≡ is
     → RunsAsPlain of_kind suites a k most given r prior kept → RunsAsPlain of_kind suites b k most words r was is
@@ -70,3 +76,17 @@ runs_as of_kind suites a b k most given words r prior was kept is letters asked 
     (subst (λ (ws : List (List ℕ)). RunsAsPlain of_kind suites a k most ws r was is) asked
     (subst (λ (ks : List KeptAnswer). RunsAsPlain of_kind suites a k most given r ks is) before
     (subst (λ (ks : List KeptAnswer). RunsAsPlain of_kind suites a k most given r prior ks) now runs)))
+
+-- two runs of one machine
+same_learned : (c d : Rows) (i j : ℕ) (p q : List (List (List ℕ))) → PlainLearned c i p ≡ PlainLearned d j q → (c ≡ d) × (i ≡ j) × (p ≡ q)
+same_learned c d i j p q e = (cc, cc, cc)
+
+pub runs_are_one : RunsAreOne
+runs_are_one task given one other refined again kept more first next =
+    let same = same_learned one other refined again first.batches next.batches (one_plain_end task given (PlainLearned one refined first.batches) (PlainLearned other again next.batches) first.learns next.learns) in
+    record {
+      model = same.0;
+      refinements = same.1;
+      words = taken_is_one [] next.batches (map (λ (k : KeptAnswer). k.word) kept) (map (λ (k : KeptAnswer). k.word) more)
+          (subst (λ (bs : List (List (List ℕ))). AreTakenInTurn [] bs (map (λ (k : KeptAnswer). k.word) kept)) same.2 first.taken) next.taken;
+    }

@@ -1,6 +1,7 @@
 -- A learning by workers that begins with no answers: what the plain learner does by the machine alone (lw_plain), whatever the number of
 -- workers and the schedule.
 use Rattle.std.specs.Prelude.{◌≡◌, ℕ, List, [], map, Result, IfOk}
+use Rattle.std.specs.List.Sorted.{IsPermutation}
 use Rattle.lw_words.specs.Word.{answers_of}
 use Rattle.lw_words.specs.declared.kept.KeptAnswer.{KeptAnswer}
 use Rattle.lw_mealy.specs.Machine.{Gives, Rows}
@@ -26,3 +27,14 @@ pub record HasPlainWords (task : Task) (given : List (List ℕ)) (model : Rows) 
 abbrev pub RunsAsPlain : Kind → Method → ℕ → ℕ → ℕ → List (List ℕ) → Result Learned LearnStop → List KeptAnswer → List KeptAnswer → Type 0
 RunsAsPlain of_kind suites a k most given learned prior kept = of_kind ≡ kind.Table → suites ≡ method.W → prior ≡ [] → (m : Rows) → Gives m (answers_of kept)
     → IfOk learned (λ l. HasPlainWords (plain_task a m k most) given l.model.rows (refinements_of l.learner) kept)
+
+-- two runs have one model, as many refinements, and the same words but for the order
+pub record AreOneRun (one other : Rows) (refined again : ℕ) (kept more : List KeptAnswer) : Type 0 where
+  pub model : one ≡ other
+  pub refinements : refined ≡ again
+  pub words : IsPermutation (map (λ k. k.word) kept) (map (λ k. k.word) more)
+
+-- so it is of each two of one machine, at whatever numbers of workers and in whatever schedules
+abbrev pub RunsAreOne : Type 0
+RunsAreOne = (task : Task) (given : List (List ℕ)) (one other : Rows) (refined again : ℕ) (kept more : List KeptAnswer) → HasPlainWords task given one refined kept → HasPlainWords task given other again more
+    → AreOneRun one other refined again kept more
