@@ -1,5 +1,5 @@
 //! A learning over children, with the names of outputs that weren't declared sorted in the end.
-ghost use Rattle.std.specs.Prelude.{◌≡◌, ◌≢◌, ◌<◌, ◌≤◌, ◌^◌, [], length, IfOk, IfSome, OnOk, None};
+ghost use Rattle.std.specs.Prelude.{◌≡◌, ◌<◌, ◌≤◌, ◌^◌, [], length, IfOk, IfSome, OnOk, None};
 ghost use Rattle.std.specs.List.{All};
 ghost use Rattle.lw_words.specs.Word.{answers_of, IsWord};
 ghost use Rattle.lw_cache.specs.Clash.{NothingClashes};
@@ -55,6 +55,9 @@ fn learn_free<P: Spawner, R: Threads + Wait + Sync + Drop, W: Watcher>(
     ensures cut { IfSome result.cut (λ run. IsStopOfInstance run.instance result.learned) }
     ensures enough { IfOk result.learned (λ l. IsEnoughFor settings.suite
         (length command.now.inputs) settings.extra (answers_of result.kept.answers) l.model) }
+    ensures plainly { RunsAsPlain settings.kind settings.suite (length command.now.inputs)
+        settings.extra settings.max_states start.words result.learned start.cache.kept
+        result.kept.answers }
     ensures found { IsOfFree settings.kind command.now.words command.now.inputs
         settings.workers settings.extra settings.max_states (P.state spawner.old)
         (P.state spawner.new) result.learned result.kept.answers result.names.names }
@@ -110,9 +113,9 @@ pub fn learn_children<P: Spawner, R: Threads + Wait + Sync + Drop, W: Watcher>(
     ensures cut { IfSome result.cut (λ run. IsStopOfInstance run.instance result.learned) }
     ensures enough { IfOk result.learned (λ l. IsEnoughFor settings.suite
         (length command.now.inputs) settings.extra (answers_of result.kept.answers) l.model) }
-    ensures plainly { command.now.outputs ≢ None → RunsAsPlain settings.kind settings.suite
-        (length command.now.inputs) settings.extra settings.max_states start.words result.learned
-        start.cache.kept result.kept.answers }
+    ensures plainly { RunsAsPlain settings.kind settings.suite (length command.now.inputs)
+        settings.extra settings.max_states start.words result.learned start.cache.kept
+        result.kept.answers }
     ensures found { IsOfCommand settings.kind command.now.words command.now.inputs
         command.now.outputs settings.workers settings.extra settings.max_states start.cache.kept
         (P.state spawner.old) (P.state spawner.new) result.learned result.kept.answers

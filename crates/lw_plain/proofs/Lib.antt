@@ -8,3 +8,5 @@ pub mod CutLemmas
 pub mod TurnLemmas
 pub mod RoundLemmas
 pub mod OrderLemmas
+pub mod OverLemmas
+pub mod MachineLemmas

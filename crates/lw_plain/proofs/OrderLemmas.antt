@@ -1,5 +1,5 @@
 -- Lists of the same words are one, but for the order.
-use Rattle.std.proofs.Common.{◌≡◌, ◌≢◌, ◌↔◌, ◌⊎◌, inl, inr, ⊎_elim, ℕ, zero, suc, ◌<◌, Bool, true, false, List, [], ◌∷◌, ◌++◌, length, get_or, Contains, refl, sym, ◌∙◌, subst, subst₂, arith}
+use Rattle.std.proofs.Common.{◌≡◌, ◌≢◌, ◌↔◌, ◌⊎◌, inl, inr, ⊎_elim, ℕ, zero, suc, Bool, true, false, List, [], ◌∷◌, ◌++◌, get_or, Contains, refl, sym, subst, subst₂, arith}
 use Rattle.std.specs.List.{remove}
 use Rattle.std.specs.List.Sorted.{IsPermutation}
 use Rattle.std.specs.Str.{bytes_eq}
@@ -9,7 +9,7 @@ use Rattle.std.proofs.lemmas.Map.Keys.{IsDistinct-IsPermutation, IsDistinct-from
 use Rattle.std.proofs.lemmas.Map.Made.{AllPairs-from_IsDistinct}
 use Rattle.std.proofs.lemmas.Slice.Eq.{bytes_eq-Decides}
 use Rattle.lw_words.specs.Word.{AllDiffer}
-use Rattle.lw_plain.specs.Taken.{AreTaken, AreTakenInTurn, TakenIsOne}
+use Rattle.lw_plain.specs.Taken.{AreTaken, TakenIsOne}
 
 not_equal : (a b : List ℕ) → a ≢ b → bytes_eq a b ≡ false
 not_equal a b other = by (bytes_eq a b) (bytes_eq-Decides a b).0

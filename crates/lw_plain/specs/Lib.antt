@@ -7,3 +7,4 @@ pub mod Known
 pub mod Taken
 pub mod Tested
 pub mod Turns
+pub mod Over

@@ -18,7 +18,7 @@ use Rattle.lw_chunks.specs.declared.size.SuiteFault.{SuiteFault}
 use Rattle.lw_chunks.specs.declared.size.SuiteFault.TheVariants as fault_of
 use Rattle.lw_plain_run.specs.declared.rounds.Round.{Round}
 use Rattle.lw_plain_run.specs.declared.rounds.Round.TheVariants as round_of
-use Rattle.lw_plain_run.proofs.MachineLemmas.{left_all}
+use Rattle.lw_plain.proofs.MachineLemmas.{left_all}
 
 -- the words that are found are over the letters, and not empty
 module _ (a : ℕ) (m h : Rows) (words : List (List ℕ)) (letters : All (IsWord a) words) where

@@ -55,15 +55,15 @@ taken_all m batches was is none asks =
 -- of a pool
 pub runs_as_plain : {S : Type 0} (of_kind : Kind) (suites : Method) (a k most : ℕ) (given : List (List ℕ)) (before now : PoolState S) (r : Result Learned LearnStop)
     → IfOk r (λ l. LearnsGiven of_kind suites a k most given l.model.rows (refinements_of l.learner) (oracle_of before) (oracle_of now)) → RunsAsPlain of_kind suites a k most given r before.kept now.kept
-runs_as_plain of_kind suites a k most given before now (Err stop) learns is_table by_w none m gives = tt
-runs_as_plain of_kind suites a k most given before now (Ok l) learns is_table by_w none m gives =
+runs_as_plain of_kind suites a k most given before now (Err stop) learns is_table by_w none m machine gives = tt
+runs_as_plain of_kind suites a k most given before now (Ok l) learns is_table by_w none m machine gives =
     let knows : KnowsWords m [] (answers_of before.kept) = subst (λ (ks : List KeptAnswer). KnowsWords m [] (answers_of ks)) (sym none) (nothing_known m) in
     let learned = learns is_table by_w m (record { exact = refl; knows = knows; gives = gives }) in
     record { batches = learned.batches; learns = learned.learns; taken = taken_all m learned.batches before.kept now.kept none learned.asks }
 
 -- nothing was learned
 pub none_learned : (of_kind : Kind) (suites : Method) (a k most : ℕ) (given : List (List ℕ)) (stop : LearnStop) (prior kept : List KeptAnswer) → RunsAsPlain of_kind suites a k most given (Err stop) prior kept
-none_learned of_kind suites a k most given stop prior kept is_table by_w none m gives = tt
+none_learned of_kind suites a k most given stop prior kept is_table by_w none m machine gives = tt
 
 pub plain_never : (of_kind : Kind) (suites : Method) (a k most : ℕ) (given : List (List ℕ)) (r : Result Learned LearnStop) (stop : LearnStop) (prior kept : List KeptAnswer) → r ≡ Err stop → RunsAsPlain of_kind suites a k most given r prior kept
 plain_never of_kind suites a k most given r stop prior kept is = subst (λ (x : Result Learned LearnStop). RunsAsPlain of_kind suites a k most given x prior kept) (sym is) (none_learned of_kind suites a k most given stop prior kept)

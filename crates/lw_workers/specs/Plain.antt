@@ -4,7 +4,7 @@ use Rattle.std.specs.Prelude.{◌≡◌, ℕ, List, [], map, Result, IfOk}
 use Rattle.std.specs.List.Sorted.{IsPermutation}
 use Rattle.lw_words.specs.Word.{answers_of}
 use Rattle.lw_words.specs.declared.kept.KeptAnswer.{KeptAnswer}
-use Rattle.lw_mealy.specs.Machine.{Gives, Rows}
+use Rattle.lw_mealy.specs.Machine.{Gives, IsMachine, Rows}
 use Rattle.lw_chunks.specs.declared.method.Method.{Method}
 use Rattle.lw_chunks.specs.declared.method.Method.TheVariants as method
 use Rattle.lw_plain.specs.Rounds.{Task, LearnsPlainly}
@@ -25,7 +25,7 @@ pub record HasPlainWords (task : Task) (given : List (List ℕ)) (model : Rows) 
 -- so it is where a table was learned by the W-method with no prior answers, for each machine that gives all that is kept; these words
 -- were asked first
 abbrev pub RunsAsPlain : Kind → Method → ℕ → ℕ → ℕ → List (List ℕ) → Result Learned LearnStop → List KeptAnswer → List KeptAnswer → Type 0
-RunsAsPlain of_kind suites a k most given learned prior kept = of_kind ≡ kind.Table → suites ≡ method.W → prior ≡ [] → (m : Rows) → Gives m (answers_of kept)
+RunsAsPlain of_kind suites a k most given learned prior kept = of_kind ≡ kind.Table → suites ≡ method.W → prior ≡ [] → (m : Rows) → IsMachine a m → Gives m (answers_of kept)
     → IfOk learned (λ l. HasPlainWords (plain_task a m k most) given l.model.rows (refinements_of l.learner) kept)
 
 -- two runs have one model, as many refinements, and the same words but for the order

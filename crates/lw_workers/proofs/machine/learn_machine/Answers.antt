@@ -72,7 +72,7 @@ returns-clause-asked g c =
     (subst (λ (words : List (List ℕ)). OnOk c.learn_with-learned.result.learned (AnswersWords words c.learn_with-learned.result.pool.kept)) c.as_slice.ensures c.learn_with-learned.ensures.asked)
 
 pub returns-in-Err-clause-plainly : goal.returns-in-Err-clause-plainly
-returns-in-Err-clause-plainly g c = λ is_table by_w none m gives. tt
+returns-in-Err-clause-plainly g c = λ is_table by_w none m machine gives. tt
 
 pub returns-clause-plainly : goal.returns-clause-plainly
 returns-clause-plainly g c =
