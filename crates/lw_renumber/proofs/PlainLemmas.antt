@@ -270,10 +270,13 @@ module _ (f g : ℕ → ℕ) (r : Renames f g) where
     counter_too t word asked over (inl (known, none)) =
         let h = hypothesis_of task t in
         let is : IsMachine a h = machine_is a m t over known.closed in
-        inl (record {
-          closed = new_row_too t over ∙ known.closed;
-          least = subst (λ (x : Rows). LeastWord (Reveals other.machine x (asked_words t.batches)) word) (sym (hypothesis_too t over)) (least_too a m machine h is (asked_words t.batches) over.asked word known.least);
-        }, none)
+        inl (
+          record {
+            closed = new_row_too t over ∙ known.closed;
+            least = subst (λ (x : Rows). LeastWord (Reveals other.machine x (asked_words t.batches)) word) (sym (hypothesis_too t over)) (least_too a m machine h is (asked_words t.batches) over.asked word known.least);
+          },
+          none,
+        )
     counter_too t word asked over (inr found) =
         let h = hypothesis_of task t in
         let is : IsMachine a h = machine_is a m t over found.ready.closed in
@@ -312,12 +315,16 @@ module _ (f g : ℕ → ℕ) (r : Renames f g) where
     table_too given letters (suc i) t (before, after, refined) =
         let was = table_too given letters i before after in
         let same = refined_same before refined.word refined.asked was.1 refined.counterexample in (
-          (before, was.0, record {
-            word = refined.word;
-            asked = refined.asked;
-            counterexample = counter_too before refined.word refined.asked was.1 refined.counterexample;
-            is = refined.is ∙ sym same.0;
-          }),
+          (
+            before,
+            was.0,
+            record {
+              word = refined.word;
+              asked = refined.asked;
+              counterexample = counter_too before refined.word refined.asked was.1 refined.counterexample;
+              is = refined.is ∙ sym same.0;
+            },
+          ),
           subst (IsOver a) (sym refined.is) same.1,
         )
 
