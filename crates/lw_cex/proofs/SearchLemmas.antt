@@ -14,7 +14,8 @@ use Rattle.lw_cache.specs.Known.{Reads}
 use Rattle.lw_cache.specs.Settling.{GainsAnswers}
 use Rattle.lw_cache.specs.declared.cut.Cut.{Cut}
 use Rattle.lw_cache.proofs.KnownLemmas.{reads_once}
-use Rattle.lw_cex.specs.Probe.{probe, IsProbe, AsksProbes}
+use Rattle.lw_plain.specs.Table.{probe}
+use Rattle.lw_cex.specs.Probe.{IsProbe, AsksProbes}
 use Rattle.lw_cex.specs.bodies.Search.{AgreesOn, Tells, IsBetween, IsCutAt}
 use Rattle.lw_cache.proofs.ReadLemmas.{front_agrees, front_and_rest, reads_more, rest_of_answer}
 

@@ -1,2 +1,3 @@
 pub mod Probe
+pub mod Plain
 pub mod bodies

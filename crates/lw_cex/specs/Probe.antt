@@ -1,15 +1,11 @@
 -- Counterexample analysis: the words that are asked, and where the counterexample is cut.
 -- Source: the binary search of Rivest and Schapire (1993).
-use Rattle.std.specs.Prelude.{◌≡◌, ℕ, ◌<◌, List, ◌∷◌, ◌++◌, length, take, drop}
+use Rattle.std.specs.Prelude.{◌≡◌, ℕ, ◌<◌, List, ◌∷◌, ◌++◌, length}
 use Rattle.std.specs.List.{All}
 use Rattle.lw_words.specs.declared.kept.KeptAnswer.{KeptAnswer}
 use Rattle.lw_mealy.specs.Machine.{Rows, after}
-use Rattle.lw_cache.specs.Cut.{word_at}
 use Rattle.lw_cache.specs.declared.cut.Cut.{Cut}
-
--- a word with its first i letters replaced by the access word of the state that they lead to
-abbrev pub probe : Rows → List (List ℕ) → List ℕ → ℕ → List ℕ
-probe m access w i = word_at access (after m 0 (take i w)) ++ drop i w
+use Rattle.lw_plain.specs.Table.{probe}
 
 -- the probe at a place within the word; the one at its start would be the word itself
 abbrev pub IsProbe : Rows → List (List ℕ) → List ℕ → List ℕ → Type 0

@@ -3,7 +3,7 @@ ghost use Rattle.std.specs.Prelude.{◌≡◌, ◌<◌, ◌≤◌, length, IfOk}
 ghost use Rattle.lw_words.specs.Word.{IsWord};
 ghost use Rattle.lw_mealy.specs.Machine.{after};
 ghost use Rattle.lw_cache.specs.Cut.{AreAccess};
-ghost use Rattle.lw_cex.specs.Probe.{probe};
+ghost use Rattle.lw_plain.specs.Table.{probe};
 
 use lw_mealy::Mealy;
 use lw_words::{NoMemory, Word, Words};

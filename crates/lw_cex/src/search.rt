@@ -1,12 +1,14 @@
 //! The binary search for the place at which a counterexample is cut.
-ghost use Rattle.std.specs.Prelude.{◌≡◌, ◌<◌, [], ◌∷◌, ◌+◌, length, IfOk};
+ghost use Rattle.std.specs.Prelude.{◌≡◌, ◌<◌, [], ◌∷◌, ◌+◌, length, IfOk, OnOk};
 ghost use Rattle.std.specs.List.{All};
 ghost use Rattle.lw_words.specs.Word.{answer_of, answers_of, IsAnswer, IsWord};
 ghost use Rattle.lw_cache.specs.Cut.{AreAccess};
 ghost use Rattle.lw_cache.specs.Known.{IsKnown};
 ghost use Rattle.lw_cache.specs.Settling.{Keeps, GainsAnswers, MayAsk, Leaves, asked_stop};
-ghost use Rattle.lw_cex.specs.Probe.{probe, AsksProbes};
-ghost use Rattle.lw_cex.specs.bodies.Search.{Tells, IsBetween};
+ghost use Rattle.lw_plain.specs.Table.{probe, probe_batch};
+ghost use Rattle.lw_plain.specs.Turns.{AsksBatch};
+ghost use Rattle.lw_cex.specs.Probe.{AsksProbes};
+ghost use Rattle.lw_cex.specs.bodies.Search.{Tells, IsBetween, FindsPlainly};
 
 use crate::probe::probe_at;
 use lw_cache::{AskStop, Cache, Oracle};
@@ -50,6 +52,8 @@ fn is_as_settled<O: Oracle>(
     requires letters { IsWord model.now.inputs word }
     ensures tells { IfOk result (Tells model.now.rows (answers_of (O.state oracle.new).kept) word) }
     ensures gains { GainsAnswers (word ∷ []) (O.state oracle.old).kept (O.state oracle.new).kept }
+    ensures plainly { OnOk result (AsksBatch (word ∷ []) (O.state oracle.old)
+        (O.state oracle.new)) }
     ensures leaves { Leaves (O.state oracle.old) (O.state oracle.new) (asked_stop result) }
     ensures can { O.can_settle oracle.new }
 {
@@ -77,6 +81,8 @@ fn agrees_at<O: Oracle>(
     requires inside { (0 < place) × (place < length word.now) }
     ensures tells { IfOk result (Tells model.now.rows (answers_of (O.state oracle.new).kept)
         (probe model.now.rows access.now word.now place)) }
+    ensures plainly { OnOk result (AsksBatch (probe_batch model.now.rows access.now word.now place)
+        (O.state oracle.old) (O.state oracle.new)) }
     ensures asks { AsksProbes model.now.rows access.now word.now (O.state oracle.old).kept
         (O.state oracle.new).kept }
     ensures leaves { Leaves (O.state oracle.old) (O.state oracle.new) (asked_stop result) }
@@ -104,6 +110,8 @@ pub fn breakpoint<O: Oracle>(
         word.now 0 (length word.now) }
     ensures between { IfOk result (λ place. IsBetween model.now.rows
         (answers_of (O.state oracle.new).kept) access.now word.now place (place + 1)) }
+    ensures plainly { IfOk result (λ place. FindsPlainly model.now.rows access.now word.now place
+        (O.state oracle.old) (O.state oracle.new)) }
     ensures asks { AsksProbes model.now.rows access.now word.now (O.state oracle.old).kept
         (O.state oracle.new).kept }
     ensures leaves { Leaves (O.state oracle.old) (O.state oracle.new) (asked_stop result) }

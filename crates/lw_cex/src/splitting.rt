@@ -4,6 +4,7 @@ ghost use Rattle.lw_words.specs.Word.{answers_of, IsWord};
 ghost use Rattle.lw_cache.specs.Against.{Differs};
 ghost use Rattle.lw_cache.specs.Cut.{AreAccess, StepsAreRead, IsCut};
 ghost use Rattle.lw_cache.specs.Settling.{MayAsk, Leaves, asked_stop};
+ghost use Rattle.lw_cex.specs.Plain.{SplitsPlainly};
 ghost use Rattle.lw_cex.specs.Probe.{AsksProbes, CutsWord};
 ghost use Rattle.lw_cex.specs.bodies.Search.{IsCutAt};
 
@@ -56,6 +57,8 @@ pub fn split<O: Oracle>(
     ensures cut { IfOk result (IsCut (answers_of (O.state oracle.new).kept) model.now.inputs
         model.now.rows access.now) }
     ensures within { IfOk result (λ cut. CutsWord model.now.rows word.now cut) }
+    ensures plainly { IfOk result (λ cut. SplitsPlainly model.now.rows access.now word.now
+        cut.suffix (O.state oracle.old) (O.state oracle.new)) }
     ensures asks { AsksProbes model.now.rows access.now word.now (O.state oracle.old).kept
         (O.state oracle.new).kept }
     ensures leaves { Leaves (O.state oracle.old) (O.state oracle.new) (asked_stop result) }

@@ -3,6 +3,7 @@ mod BegunLemmas
 mod ComingUp
 mod EndLemmas
 mod KeepLemmas
+mod PlainLemmas
 mod PoolLemmas
 mod RetireLemmas
 mod RunLemmas

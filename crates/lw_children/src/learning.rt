@@ -9,6 +9,7 @@ ghost use Rattle.lw_pool.specs.Opening.{MayBegin};
 ghost use Rattle.lw_pool.specs.Sharing.{declared_by};
 ghost use Rattle.lw_rounds.specs.Learned.{IsEnoughFor};
 ghost use Rattle.lw_workers.specs.Asking.{AnswersWords};
+ghost use Rattle.lw_workers.specs.Plain.{RunsAsPlain};
 ghost use Rattle.lw_children.specs.Children.{IsOfChildren};
 ghost use Rattle.lw_children.specs.Crews.{AreLinkedWith, HasRetired, IsChildrenPool, RetiresWith, first_naming};
 ghost use Rattle.lw_children.specs.Cuts.{IsStopOfInstance};
@@ -109,6 +110,8 @@ fn learn_and_retire<P: Spawner, R: Threads + Wait + Sync + Drop, W: Watcher>(
     ensures cut { IfSome result.cut (λ run. IsStopOfInstance run.instance result.learned) }
     ensures enough { IfOk result.learned (λ l. IsEnoughFor settings.suite pool.inputs
         settings.extra (answers_of result.kept.answers) l.model) }
+    ensures plainly { RunsAsPlain settings.kind settings.suite pool.inputs settings.extra
+        settings.max_states words.now result.learned pool.kept result.kept.answers }
     ensures ended { HasRetired settings.kind P.Link.state settings.extra settings.max_states
         pool (P.state spawner.old) (P.state spawner.new) result.learned result.kept.answers
         result.names }
@@ -151,6 +154,9 @@ pub(crate) fn learn_over<P: Spawner, R: Threads + Wait + Sync + Drop, W: Watcher
         result.names.names }
     ensures enough { IfOk result.learned (λ l. IsEnoughFor settings.suite
         (length command.now.inputs) settings.extra (answers_of result.kept.answers) l.model) }
+    ensures plainly { RunsAsPlain settings.kind settings.suite (length command.now.inputs)
+        settings.extra settings.max_states start.words result.learned start.cache.kept
+        result.kept.answers }
     ensures sharing { declared_by result.names.names result.names.brought ≡
         declared_by start.names.names start.names.brought }
     ensures come_up { FreeComeUp result.kept.answers result.names }

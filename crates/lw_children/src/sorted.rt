@@ -6,6 +6,7 @@ ghost use Rattle.lw_cache.specs.Clash.{NothingClashes};
 ghost use Rattle.lw_pool.specs.Opening.{MayBegin};
 ghost use Rattle.lw_rounds.specs.Learned.{IsEnoughFor};
 ghost use Rattle.lw_workers.specs.Asking.{AnswersWords};
+ghost use Rattle.lw_workers.specs.Plain.{RunsAsPlain};
 ghost use Rattle.lw_children.specs.Children.{IsOfCommand, IsOfFree};
 ghost use Rattle.lw_children.specs.Crews.{first_naming};
 ghost use Rattle.lw_children.specs.Cuts.{IsStopOfInstance};
@@ -54,6 +55,9 @@ fn learn_free<P: Spawner, R: Threads + Wait + Sync + Drop, W: Watcher>(
     ensures cut { IfSome result.cut (λ run. IsStopOfInstance run.instance result.learned) }
     ensures enough { IfOk result.learned (λ l. IsEnoughFor settings.suite
         (length command.now.inputs) settings.extra (answers_of result.kept.answers) l.model) }
+    ensures plainly { RunsAsPlain settings.kind settings.suite (length command.now.inputs)
+        settings.extra settings.max_states start.words result.learned start.cache.kept
+        result.kept.answers }
     ensures found { IsOfFree settings.kind command.now.words command.now.inputs
         settings.workers settings.extra settings.max_states (P.state spawner.old)
         (P.state spawner.new) result.learned result.kept.answers result.names.names }
@@ -109,6 +113,9 @@ pub fn learn_children<P: Spawner, R: Threads + Wait + Sync + Drop, W: Watcher>(
     ensures cut { IfSome result.cut (λ run. IsStopOfInstance run.instance result.learned) }
     ensures enough { IfOk result.learned (λ l. IsEnoughFor settings.suite
         (length command.now.inputs) settings.extra (answers_of result.kept.answers) l.model) }
+    ensures plainly { RunsAsPlain settings.kind settings.suite (length command.now.inputs)
+        settings.extra settings.max_states start.words result.learned start.cache.kept
+        result.kept.answers }
     ensures found { IsOfCommand settings.kind command.now.words command.now.inputs
         command.now.outputs settings.workers settings.extra settings.max_states start.cache.kept
         (P.state spawner.old) (P.state spawner.new) result.learned result.kept.answers

@@ -16,6 +16,7 @@ use Rattle.lw_rounds.specs.declared.learned.Learned.{Learned}
 use Rattle.lw_rounds.specs.declared.learner.Kind.{Kind}
 use Rattle.lw_rounds.specs.declared.stops.LearnStop.{LearnStop}
 use Rattle.lw_rounds.specs.declared.stops.LearnStop.TheVariants as learn
+use Rattle.lw_workers.specs.Plain.{RunsAsPlain}
 use Rattle.lw_children.specs.Children.{IsOfChildren, IsOfCommand}
 use Rattle.lw_children.specs.Keeping.{KeepsChildren}
 use Rattle.lw_system.specs.NewLines.{count_of}
@@ -152,3 +153,12 @@ module _ (kind : Kind) (words letters : List (List ℕ)) (workers k most : ℕ) 
   pub command_over : (outputs : Option (List (List ℕ))) → IsOfCommand kind words letters outputs workers k most prior before now learned kept names → ArePrior prior → workers ≤ 16 → AreKeptOver (length letters) (length names) kept
   command_over None is are small = let free = is.1 in keeps_over letters None names [] kept free.links workers free.keeps (λ i d lt. absurd (omega (arith, lt))) free.few small
   command_over (Some outputs) is are small = keeps_over letters (Some outputs) names prior kept is.1.links workers is.1.keeps are is.1.few small
+
+-- what a learning came to by the machine alone, by the settings of the arguments
+pub plain_for : (kind own : Kind) (suites asked : Method) (a b k extra most states : ℕ) (given : List (List ℕ)) (r : Result Learned LearnStop) (prior kept : List KeptAnswer) → kind ≡ own → suites ≡ asked → a ≡ b → k ≡ extra → most ≡ states → RunsAsPlain kind suites a k most given r prior kept → RunsAsPlain own asked b extra states given r prior kept
+plain_for kind own suites asked a b k extra most states given r prior kept same method letters more few runs =
+    subst (λ (x : Kind). RunsAsPlain x asked b extra states given r prior kept) same
+    (subst (λ (x : Method). RunsAsPlain kind x b extra states given r prior kept) method
+    (subst (λ (n : ℕ). RunsAsPlain kind suites n extra states given r prior kept) letters
+    (subst (λ (n : ℕ). RunsAsPlain kind suites a n states given r prior kept) more
+    (subst (λ (n : ℕ). RunsAsPlain kind suites a k n given r prior kept) few runs))))

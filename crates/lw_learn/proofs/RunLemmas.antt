@@ -34,13 +34,16 @@ use Rattle.lw_report.specs.declared.role.Role.TheVariants as role
 use Rattle.lw_report.specs.declared.outcome.Outcome.{Outcome}
 use Rattle.lw_report.specs.declared.outcome.Outcome.TheVariants.{Learned, Trial, Yes, Served, No, Usage, BadFile, Alphabets, FileTooLong, Nondeterministic, NoMemory, SulFailed, Gone, BadLine, BadAsk, TooManyStates, SuiteTooLarge, FileFault, SourceFault, SinkFault, Compared, Asked, Rechecked, UnknownLetter, Unstarted, Accepted, BadAcceptor, NotAcceptor}
 use Rattle.lw_outside.proofs.SinkLemmas.{sink_none}
+use Rattle.lw_plain.specs.Rounds.{Task}
+use Rattle.lw_rounds.specs.Plain.{plain_task}
 use Rattle.lw_workers.specs.Asking.{AnswersWords}
+use Rattle.lw_workers.specs.Plain.{HasPlainWords, RunsAsPlain}
 use Rattle.lw_learn.specs.Arguments.{LearnValues}
 use Rattle.lw_learn.specs.Asking.{IsWordlessTask}
 use Rattle.lw_learn.specs.Calls.{MadeWrites}
 use Rattle.lw_json.specs.declared.files.Machine.{Machine}
 use Rattle.lw_system.specs.NewLines.{count_of}
-use Rattle.lw_learn.specs.Ending.{Carries, EndsLearned, EndsRead, EndsUnread, IsEndOf, IsSoundSystem, IsToldOf, IsUncountedSystem, end_outputs}
+use Rattle.lw_learn.specs.Ending.{Carries, EndsLearned, EndsPlainly, EndsRead, EndsUnread, IsEndOf, IsSoundSystem, IsToldOf, IsUncountedSystem, end_outputs}
 use Rattle.lw_learn.specs.Findings.{IsOfSystem, LearningStopsBy}
 use Rattle.lw_learn.specs.Outcomes.{HasFiles, HasModelFile, IsBadLine, IsBehindOut, IsLearnedOutcome, IsNoAcceptor, IsReachedAcceptor, IsReachedMachine, IsReachedOutcome, IsUntold, ModelIsTold, ReportIsTold, told_of}
 use Rattle.lw_learn.specs.Saving.{HasSaved, IsKeptWritten, IsSaved, IsTextWritten, KeptStand, MayTell, saved_outcome}
@@ -460,6 +463,18 @@ pub answered_end : (goal : Goal) (words : List (List ℕ)) (learned : Result Fou
 answered_end goal words (Ok l) kept end carries same asked some = subst (λ (ks : List KeptAnswer). AnswersWords words ks) (sym same) asked
 answered_end goal words (Err stop) kept end carries same asked some = absurd (some carries.0)
 
+-- and what a learning came to by the machine alone is what the end says
+pub plain_end : (goal : Goal) (a : LearnValues) (letters : ℕ) (words : List (List ℕ)) (prior : List KeptAnswer) (learned : Result Found LearnStop) (kept : List KeptAnswer) (end : End) → Carries goal learned end → end.kept.answers ≡ kept
+    → RunsAsPlain a.learner a.suite letters a.extra a.max_states words learned prior kept → EndsPlainly a letters words prior end
+plain_end goal a letters words prior (Err stop) kept end carries same runs is_table by_w none m machine gives =
+    subst (λ (x : Option MealyMachine). IfSome x (λ model. HasPlainWords (plain_task letters m a.extra a.max_states) words model.rows end.refinements end.kept.answers)) (sym carries.0) tt
+plain_end goal a letters words prior (Ok l) kept end carries same runs is_table by_w none m machine gives =
+    let task : Task = plain_task letters m a.extra a.max_states in
+    let has = runs is_table by_w none m machine (subst (λ (ks : List KeptAnswer). Gives m (answers_of ks)) same gives) in
+    subst (λ (x : Option MealyMachine). IfSome x (λ model. HasPlainWords task words model.rows end.refinements end.kept.answers)) (sym carries.0)
+    (subst (λ (n : ℕ). HasPlainWords task words l.model.rows n end.kept.answers) (sym carries.2)
+    (subst (λ (ks : List KeptAnswer). HasPlainWords task words l.model.rows (refinements_of l.learner) ks) (sym same) has))
+
 -- and before that read, with the words that are asked first
 pub task_ready : (a : LearnValues) (f m : FilesState) (r : Result WordedTask UnreadState) (t : WordedTask) → r ≡ Ok t → IsWordedStage a f m r → SaysWorded a f m t
 task_ready a f m r t is stage = by (subst (λ (x : Result WordedTask UnreadState). IsWordedStage a f m x) is stage)
@@ -467,8 +482,8 @@ task_ready a f m r t is stage = by (subst (λ (x : Result WordedTask UnreadState
     by : IsWordedStage a f m (Ok t) → SaysWorded a f m t
     by x = x.ok
 
-pub ends_read : (a : LearnValues) (f m g : FilesState) (b z : SpawnerState) (o p e d : SinkState) (end : End) (r : Result WordedTask UnreadState) (t : WordedTask) → r ≡ Ok t → IsWordedStage a f m r → EndsLearned a t.task.system t.task.cache.kept m g b z o p e d end → (end.model ≢ None → AnswersWords t.words end.kept.answers) → EndsRead a f g b z o p e d end
-ends_read a f m g b z o p e d end r t is stage learned answered = by (subst (λ (x : Result WordedTask UnreadState). IsWordedStage a f m x) is stage)
+pub ends_read : (a : LearnValues) (f m g : FilesState) (b z : SpawnerState) (o p e d : SinkState) (end : End) (r : Result WordedTask UnreadState) (t : WordedTask) → r ≡ Ok t → IsWordedStage a f m r → EndsLearned a t.task.system t.task.cache.kept m g b z o p e d end → (end.model ≢ None → AnswersWords t.words end.kept.answers) → EndsPlainly a (length (letters_of t.task.system)) t.words t.task.cache.kept end → EndsRead a f g b z o p e d end
+ends_read a f m g b z o p e d end r t is stage learned answered plainly = by (subst (λ (x : Result WordedTask UnreadState). IsWordedStage a f m x) is stage)
   where
     by : IsWordedStage a f m (Ok t) → EndsRead a f g b z o p e d end
     by x = record {
@@ -485,6 +500,7 @@ ends_read a f m g b z o p e d end r t is stage learned answered = by (subst (λ 
       unclashed = x.ok.ready.nothing;
       learned = learned;
       answered = answered;
+      plainly = plainly;
     }
 
 -- what was unread, and what its end says

@@ -6,13 +6,17 @@ use Rattle.lw_words.specs.Cause.{CountedFault}
 use Rattle.lw_words.specs.declared.kept.KeptAnswer.{KeptAnswer}
 use Rattle.lw_cache.specs.Clash.{NothingClashes}
 use Rattle.lw_names.specs.Naming.{Naming}
-use Rattle.lw_mealy.specs.Machine.{Gives, Rows}
+use Rattle.lw_mealy.specs.Machine.{Gives, IsMachine, Rows}
 use Rattle.lw_outside.specs.Files.{File, FilesState}
 use Rattle.lw_outside.specs.Links.{LinkState, SpawnerState}
 use Rattle.lw_rounds.specs.Learner.{refinements_of}
 use Rattle.lw_rounds.specs.declared.learned.Learned.{Learned as Found}
 use Rattle.lw_rounds.specs.declared.stops.LearnStop.{LearnStop}
+use Rattle.lw_rounds.specs.Plain.{plain_task}
+use Rattle.lw_rounds.specs.declared.learner.Kind.TheVariants as kind
+use Rattle.lw_chunks.specs.declared.method.Method.TheVariants as method
 use Rattle.lw_workers.specs.Asking.{AnswersWords}
+use Rattle.lw_workers.specs.Plain.{HasPlainWords}
 use Rattle.lw_workers.specs.Machines.{IsWithin}
 use Rattle.lw_children.specs.Children.{IsSound, IsUncounted}
 use Rattle.lw_system.specs.NewLines.{count_of}
@@ -157,6 +161,12 @@ pub record EndsLearned (a : LearnValues) (s : System) (prior : List KeptAnswer) 
       → IsReachedOutcome a.goal (length r) end.outcome ⊎ IsBadLine a.workers end.outcome
   pub told : IsEndOf a s naming learned end.kept.answers files_before files_now out_before out_now err_before err_now end
 
+-- a model of a table that was learned by the W-method with no prior answers is the plain learner's, with as many refinements, for each
+-- machine that gives all that is kept; and the words of what is kept are those taken from its batches in turn
+abbrev pub EndsPlainly : LearnValues → ℕ → List (List ℕ) → List KeptAnswer → End → Type 0
+EndsPlainly a letters words prior end = a.learner ≡ kind.Table → a.suite ≡ method.W → prior ≡ [] → (m : Rows) → IsMachine letters m → Gives m (answers_of end.kept.answers)
+    → IfSome end.model (λ model. HasPlainWords (plain_task letters m a.extra a.max_states) words model.rows end.refinements end.kept.answers)
+
 -- the files say a system, prior answers and words that are asked first, and the system was learned; where there is a model each
 -- of the words was answered
 pub record EndsRead (a : LearnValues) (files_before files_now : FilesState) (spawner_before spawner_now : SpawnerState) (out_before out_now : SinkState) (err_before err_now : SinkState) (end : End) : Type 0 where
@@ -174,3 +184,4 @@ pub record EndsRead (a : LearnValues) (files_before files_now : FilesState) (spa
   pub unclashed : NothingClashes (answers_of prior)
   pub learned : EndsLearned a system prior middle files_now spawner_before spawner_now out_before out_now err_before err_now end
   pub answered : end.model ≢ None → AnswersWords words end.kept.answers
+  pub plainly : EndsPlainly a (length (letters_of system)) words prior end

@@ -4,7 +4,7 @@ ghost use Rattle.std.specs.List.{All};
 ghost use Rattle.lw_words.specs.Word.{IsWord};
 ghost use Rattle.lw_workers.specs.Asking.{AnswersWords};
 ghost use Rattle.lw_report.specs.Outcomes.{status_of};
-ghost use Rattle.lw_learn.specs.Ending.{EndsLearned};
+ghost use Rattle.lw_learn.specs.Ending.{EndsLearned, EndsPlainly};
 ghost use Rattle.lw_learn.specs.LearnRun.{IsLearnEnd, IsLearnRun};
 ghost use Rattle.lw_system.specs.Goals.{IsSystemFor};
 ghost use Rattle.lw_system.specs.Systems.{letters_of};
@@ -52,6 +52,8 @@ fn learn_read<
         (O.state world.old.out) (O.state world.new.out)
         (E.state world.old.err) (E.state world.new.err) result }
     ensures answered { result.model ≢ None → AnswersWords worded.words result.kept.answers }
+    ensures plainly { EndsPlainly arguments.now (length (letters_of worded.task.system))
+        worded.words worded.task.cache.kept result }
     ensures input { world.new.input ≡ world.old.input }
 {
     let WordedTask { task, words } = worded;

@@ -6,6 +6,7 @@ ghost use Rattle.lw_cache.specs.Clash.{NothingClashes};
 ghost use Rattle.lw_json.specs.KeptOver.{AreKeptOver};
 ghost use Rattle.lw_pool.specs.Opening.{MayBegin};
 ghost use Rattle.lw_workers.specs.Asking.{AnswersWords};
+ghost use Rattle.lw_workers.specs.Plain.{RunsAsPlain};
 ghost use Rattle.lw_system.specs.NewLines.{count_of};
 ghost use Rattle.lw_children.specs.Children.{IsOfCommand};
 ghost use Rattle.lw_rounds.specs.Learned.{IsEnoughFor};
@@ -42,6 +43,9 @@ fn learn_table<R: Threads + Wait + Sync + Drop, W: Watcher>(
     ensures enough { IfOk result.learned (λ l. IsEnoughFor arguments.now.suite
         (length machine.now.inputs) arguments.now.extra (answers_of result.kept.answers) l.model) }
     ensures asked { OnOk result.learned (AnswersWords start.words result.kept.answers) }
+    ensures plainly { RunsAsPlain arguments.now.learner arguments.now.suite
+        (length machine.now.inputs) arguments.now.extra arguments.now.max_states start.words
+        result.learned start.cache.kept result.kept.answers }
     ensures few { arguments.now.workers ≤ 16 }
 {
     let settings = arguments.settings();
@@ -76,6 +80,9 @@ fn learn_command<P: Spawner, R: Threads + Wait + Sync + Drop, W: Watcher>(
     ensures enough { IfOk result.learned (λ l. IsEnoughFor arguments.now.suite
         (length command.now.inputs) arguments.now.extra (answers_of result.kept.answers) l.model) }
     ensures asked { OnOk result.learned (AnswersWords start.words result.kept.answers) }
+    ensures plainly { RunsAsPlain arguments.now.learner arguments.now.suite
+        (length command.now.inputs) arguments.now.extra arguments.now.max_states start.words
+        result.learned start.cache.kept result.kept.answers }
     ensures few { arguments.now.workers ≤ 16 }
 {
     let settings = arguments.settings();
@@ -111,6 +118,9 @@ pub(crate) fn learn_system<P: Spawner, R: Threads + Wait + Sync + Drop, W: Watch
         result.kept.answers }
     ensures named { IfSome (declared_of system.now) (λ own. result.names.names ≡ own) }
     ensures asked { OnOk result.learned (AnswersWords start.words result.kept.answers) }
+    ensures plainly { RunsAsPlain arguments.now.learner arguments.now.suite
+        (length (letters_of system.now)) arguments.now.extra arguments.now.max_states start.words
+        result.learned start.cache.kept result.kept.answers }
 {
     match system {
         System::Table(machine) => { learn_table(rt, alloc, arguments, machine, start, watcher) }

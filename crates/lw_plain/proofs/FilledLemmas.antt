@@ -10,10 +10,10 @@ use Rattle.lw_plain.specs.Rounds.{Task, IsRefinedTimes, IsRefined, asked_words, 
 use Rattle.lw_plain.specs.Laws.{HoldCells, CellsAreAsked}
 use Rattle.lw_plain.proofs.LawLemmas.{close_done, close_more}
 
-weaker : {X : Type 0} (P Q : X → Type 0) (xs : List X) → ((x : X) → P x → Q x) → All P xs → All Q xs
+pub weaker : {X : Type 0} (P Q : X → Type 0) (xs : List X) → ((x : X) → P x → Q x) → All P xs → All Q xs
 weaker P Q xs f all k d lt = f (get_or xs k d) (all k d lt)
 
-each_value : {X Y : Type 0} (P : X → Type 0) (f : Y → X) (ys : List Y) (e : X) → All P (map f ys) → All (λ y. P (f y)) ys
+pub each_value : {X Y : Type 0} (P : X → Type 0) (f : Y → X) (ys : List Y) (e : X) → All P (map f ys) → All (λ y. P (f y)) ys
 each_value P f ys e all k d lt = subst P (get_or-map f ys k d e lt) (all k e (let long = length-map ys f in omega arith))
 
 -- more words
@@ -40,7 +40,7 @@ cells_asked (r ∷ rs) suffixes =
     (asked_right rs suffixes (row_cells suffixes r) (cell_words rs suffixes) (cells_asked rs suffixes))
 
 -- a batch more
-batch_more : (batches : List (List (List ℕ))) (batch : List (List ℕ)) → asked_words batches ++ batch ≡ asked_words (batches ++ batch ∷ [])
+pub batch_more : (batches : List (List (List ℕ))) (batch : List (List ℕ)) → asked_words batches ++ batch ≡ asked_words (batches ++ batch ∷ [])
 batch_more batches batch = flat_map_more (λ (b : List (List ℕ)). b) [] batches batch
 
 Filled : ℕ → PlainTable → Type 0

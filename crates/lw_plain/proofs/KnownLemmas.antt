@@ -1,8 +1,8 @@
 -- What is known, by the words that were asked.
-use Rattle.std.proofs.Common.{◌≡◌, ◌≢◌, ⊎_elim, inl, inr, ℕ, zero, suc, ◌-◌, ◌<◌, ◌≤◌, List, [], ◌∷◌, ◌++◌, length, take, Some, None, Contains, refl, ap, sym, ◌∙◌, subst, arith, append_assoc, length-append}
+use Rattle.std.proofs.Common.{◌≡◌, ◌≢◌, ⊎_elim, inl, inr, ℕ, zero, suc, ◌-◌, ◌<◌, ◌≤◌, List, [], ◌∷◌, ◌++◌, length, take, get_or, Some, None, Contains, refl, ap, sym, ◌∙◌, subst, arith, append_assoc, length-append}
 use Rattle.std.proofs.lemmas.Bool.{cases_lt}
 use Rattle.std.proofs.lemmas.List.{take-append-le, take_all}
-use Rattle.std.proofs.lemmas.List.Elements.{All-nil, All-get_or, All-contains, Contains-append_left, Contains-append_right, Contains-append_cases}
+use Rattle.std.proofs.lemmas.List.Elements.{All-nil, All-get_or, All-contains, Contains-append_left, Contains-append_right, Contains-append_cases, Contains-get_or}
 use Rattle.lw_words.specs.Word.{Answer, IsPrefix, answer_at}
 use Rattle.lw_mealy.specs.Machine.{Rows, Gives, answer}
 use Rattle.lw_mealy.proofs.WordLemmas.{out-take}
@@ -131,3 +131,14 @@ batch_is_known m words batch ks more knows gives to_batch known = record {
       (λ (new : Contains batch begins.0). prefix_known m (ks ++ more) gives w begins.0 begins.2 (All-contains (IsKnown (ks ++ more)) batch begins.0 known new))
       (Contains-append_cases words batch begins.0 begins.1);
 }
+
+-- the first of a machine's answers are a machine's
+pub gives_front : (m : Rows) (ks more : List Answer) → Gives m (ks ++ more) → Gives m ks
+gives_front m ks more gives i d lt =
+    let size = length-append ks more in
+    let all : Contains (ks ++ more) (get_or ks i d) = Contains-append_left ks more (get_or ks i d) (Contains-get_or ks i d lt) in
+    All-contains (λ k. answer m k.word ≡ k.outs) (ks ++ more) (get_or ks i d) gives all
+
+-- what is read where all answers are a machine's are its outputs
+pub reads_answer : (m : Rows) (ks : List Answer) (w o : List ℕ) → Gives m ks → Reads ks w o → o ≡ answer m w
+reads_answer m ks w o gives r = read_is m ks gives w o r

@@ -5,3 +5,8 @@ pub mod KnownLemmas
 pub mod TakenLemmas
 pub mod TestedLemmas
 pub mod CutLemmas
+pub mod TurnLemmas
+pub mod RoundLemmas
+pub mod OrderLemmas
+pub mod OverLemmas
+pub mod MachineLemmas

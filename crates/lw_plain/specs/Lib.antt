@@ -6,3 +6,5 @@ pub mod Ends
 pub mod Known
 pub mod Taken
 pub mod Tested
+pub mod Turns
+pub mod Over

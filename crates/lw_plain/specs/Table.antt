@@ -2,10 +2,10 @@
 -- Source: Angluin (1987), with outputs for cells as in Niese (2003). The order of rows, cells and batches is this project's.
 --
 -- Everywhere m are the rows of the machine that is learned, and a is its number of letters.
-use Rattle.std.specs.Prelude.{ℕ, zero, suc, ◌+◌, ◌-◌, ◌/◌, Bool, not, cond, bytes_eq, nat_lt, List, [], ◌∷◌, ◌++◌, map, drop, Option, option_map, unwrap_or}
+use Rattle.std.specs.Prelude.{ℕ, zero, suc, ◌+◌, ◌-◌, ◌/◌, Bool, not, cond, bytes_eq, nat_lt, List, [], ◌∷◌, ◌++◌, map, take, drop, Option, option_map, unwrap_or}
 use Rattle.std.specs.List.{find, flat_map, list_all, list_any, position_or_len, range_with_len}
 use Rattle.lw_mealy.specs.Machine.{Rows, after, out, output, answer}
-use Rattle.lw_cex.specs.Probe.{probe}
+use Rattle.lw_cache.specs.Cut.{word_at}
 
 -- the access words, the suffixes, and the batches of words that were asked. The cell of each row and each suffix is filled: its word is
 -- in a batch.
@@ -103,6 +103,10 @@ abbrev pub machine_of : ℕ → Rows → PlainTable → Rows
 machine_of a m t = map (transitions_of a m t) t.access
 
 -- Where a counterexample is cut. Source: the binary search of Rivest and Schapire (1993).
+
+-- a word with its first i letters replaced by the access word of the state that they lead to
+abbrev pub probe : Rows → List (List ℕ) → List ℕ → ℕ → List ℕ
+probe m access w i = word_at access (after m 0 (take i w)) ++ drop i w
 
 -- the places of a word between which the search goes on, and those that it tried
 pub record Search : Type 0 where

@@ -1,6 +1,7 @@
 -- Which words of the batches are asked of a system: of each batch in turn those that aren't known, each once, but those that another
 -- word of the batch begins with.
 use Rattle.std.specs.Prelude.{◌≡◌, ◌≢◌, ◌↔◌, ℕ, List, [], ◌∷◌, ◌++◌, Contains}
+use Rattle.std.specs.List.Sorted.{IsPermutation}
 use Rattle.lw_words.specs.Word.{Answer, IsPrefix, AllDiffer}
 use Rattle.lw_mealy.specs.Machine.{Rows}
 use Rattle.lw_cache.specs.Asked.{AreAsked}
@@ -32,3 +33,7 @@ AskedAreTaken = (m : Rows) (words batch : List (List ℕ)) (ks : List Answer) (a
 abbrev pub TakesOnAndOn : Type 0
 TakesOnAndOn = (words : List (List ℕ)) (batches more : List (List (List ℕ))) (taken after : List (List ℕ)) → AreTakenInTurn words batches taken
     → AreTakenInTurn (words ++ asked_words batches) more after → AreTakenInTurn words (batches ++ more) (taken ++ after)
+
+-- what is taken from batches in turn is one, but for the order
+abbrev pub TakenIsOne : Type 0
+TakenIsOne = (words : List (List ℕ)) (batches : List (List (List ℕ))) (taken other : List (List ℕ)) → AreTakenInTurn words batches taken → AreTakenInTurn words batches other → IsPermutation taken other

@@ -2,7 +2,8 @@
 ghost use Rattle.lw_plain.specs.Ends.{OnePlainEnd};
 ghost use Rattle.lw_plain.specs.Known.{NothingKnown, BatchIsKnown, KnownOutputs, FirstIsRevealed};
 ghost use Rattle.lw_plain.specs.Laws.{CellsAreAsked, CrowdIsFull, SearchFinds};
-ghost use Rattle.lw_plain.specs.Taken.{AskedAreTaken, TakesOnAndOn};
+ghost use Rattle.lw_plain.specs.Taken.{AskedAreTaken, TakesOnAndOn, TakenIsOne};
+ghost use Rattle.lw_plain.specs.Turns.{SettledIsAsked, AsksOnAndOn};
 ghost use Rattle.lw_plain.specs.Worked.{WorkedTables};
 
 /// The word of each cell of the learner's table is in a batch.
@@ -58,4 +59,19 @@ pub fn asked_are_taken()
 /// What is taken from batches behind others comes behind what was taken from these.
 pub fn takes_on_and_on()
     ensures { TakesOnAndOn }
+{}
+
+/// A batch that was settled is asked.
+pub fn settled_is_asked()
+    ensures { SettledIsAsked }
+{}
+
+/// What is asked behind other batches comes behind what was asked for these.
+pub fn asks_on_and_on()
+    ensures { AsksOnAndOn }
+{}
+
+/// What is taken from batches in turn is one, but for the order.
+pub fn taken_is_one()
+    ensures { TakenIsOne }
 {}

@@ -4,6 +4,7 @@
 mod laws;
 
 pub use laws::{
-    as_worked, asked_are_taken, batch_is_known, cells_are_asked, crowd_is_full, first_is_revealed,
-    known_outputs, nothing_is_known, plain_end_is_unique, search_finds_cut, takes_on_and_on,
+    as_worked, asked_are_taken, asks_on_and_on, batch_is_known, cells_are_asked, crowd_is_full,
+    first_is_revealed, known_outputs, nothing_is_known, plain_end_is_unique, search_finds_cut,
+    settled_is_asked, taken_is_one, takes_on_and_on,
 };

@@ -1,6 +1,4 @@
 pub mod ListLemmas
-pub mod TableLemmas
-pub mod MachineLemmas
 pub mod DifferenceLemmas
 pub mod RoundLemmas
 pub mod RunLemmas

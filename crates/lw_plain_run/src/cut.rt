@@ -2,9 +2,9 @@
 ghost use Rattle.std.specs.Prelude.{◌≡◌, ℕ, ◌+◌, ◌<◌, ◌≤◌, List, [], ◌∷◌, ◌++◌, length, map, take, drop, IfOk, OnOk};
 ghost use Rattle.std.specs.List.{All};
 ghost use Rattle.lw_words.specs.Word.{IsWord};
-ghost use Rattle.lw_cex.specs.Probe.{probe};
-ghost use Rattle.lw_plain.specs.Table.{agrees_on, agrees_at, halved, search_word, probe_batch, with_batches, split_by};
-ghost use Rattle.lw_plain_run.specs.bodies.Tables.{IsOver, search_of};
+ghost use Rattle.lw_plain.specs.Table.{agrees_on, agrees_at, halved, search_word, probe, probe_batch, with_batches, split_by};
+ghost use Rattle.lw_plain.specs.Over.{IsOver};
+ghost use Rattle.lw_plain_run.specs.bodies.Tables.{search_of};
 
 use crate::rows::have_same_outputs;
 use crate::table::{Table, one_word};

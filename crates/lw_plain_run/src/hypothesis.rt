@@ -2,7 +2,7 @@
 ghost use Rattle.std.specs.Prelude.{◌≡◌, ℕ, ◌<◌, ◌≤◌, List, length, None, IfOk, OnOk, map};
 ghost use Rattle.lw_words.specs.Word.{IsWord};
 ghost use Rattle.lw_plain.specs.Table.{row_state, transition_of, transitions_of, machine_of, first_new};
-ghost use Rattle.lw_plain_run.specs.bodies.Tables.{IsOver};
+ghost use Rattle.lw_plain.specs.Over.{IsOver};
 
 use crate::rows::have_same_row;
 use crate::table::Table;

@@ -6,7 +6,7 @@ ghost use Rattle.lw_plain.specs.Table.{first_table};
 ghost use Rattle.lw_plain.specs.Rounds.{closed_by};
 ghost use Rattle.lw_plain_run.specs.Run.{task_of, IsPlainRun};
 ghost use Rattle.lw_plain_run.specs.bodies.Rounds.{IsEnded, told_run};
-ghost use Rattle.lw_plain_run.specs.bodies.Tables.{IsOver};
+ghost use Rattle.lw_plain.specs.Over.{IsOver};
 
 use crate::PlainRun;
 use crate::rounds::{Round, one_round};

@@ -10,7 +10,7 @@ ghost use Rattle.lw_plain.specs.Table.{first_new, close, machine_of, search_word
 ghost use Rattle.lw_plain.specs.Rounds.{IsUnrefuted, IsSuiteFor};
 ghost use Rattle.lw_plain_run.specs.Run.{task_of, IsAlike};
 ghost use Rattle.lw_plain_run.specs.bodies.Rounds.{IsRound};
-ghost use Rattle.lw_plain_run.specs.bodies.Tables.{IsOver};
+ghost use Rattle.lw_plain.specs.Over.{IsOver};
 
 use crate::cut::split;
 use crate::difference::least_revealed;

@@ -3,7 +3,7 @@ ghost use Rattle.std.specs.Prelude.{◌≡◌, ℕ, List, length, IfOk, OnOk};
 ghost use Rattle.std.specs.List.{All};
 ghost use Rattle.lw_words.specs.Word.{IsWord};
 ghost use Rattle.lw_plain.specs.Tested.{TestsWords};
-ghost use Rattle.lw_plain_run.specs.bodies.Tables.{IsOver};
+ghost use Rattle.lw_plain.specs.Over.{IsOver};
 
 use crate::difference::first_difference;
 use crate::table::{Table, copy_words};

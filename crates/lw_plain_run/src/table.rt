@@ -3,7 +3,7 @@ ghost use Rattle.std.specs.Prelude.{◌≡◌, ℕ, ◌-◌, ◌<◌, ◌≤◌,
 ghost use Rattle.std.specs.List.{All};
 ghost use Rattle.lw_words.specs.Word.{IsWord};
 ghost use Rattle.lw_plain.specs.Table.{first_table, with_access_word, with_suffix, unless_empty, is_new, first_new, close};
-ghost use Rattle.lw_plain_run.specs.bodies.Tables.{IsOver};
+ghost use Rattle.lw_plain.specs.Over.{IsOver};
 
 use crate::batches::Batches;
 use crate::rows::{cell_words, extensions, have_same_row, row_words};

@@ -5,6 +5,7 @@ pub mod LawLemmas
 mod LearnedLemmas
 pub mod MachineLemmas
 mod NumberLemmas
+pub mod PlainLemmas
 pub mod OccurLemmas
 mod SortLemmas
 mod SuiteLemmas

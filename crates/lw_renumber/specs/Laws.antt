@@ -1,11 +1,13 @@
 -- That outputs under other names change nothing of what was learned.
 use Rattle.std.specs.Prelude.{◌≡◌, ℕ, ◌≤◌, ◌↔◌, List, length, map}
+use Rattle.std.specs.List.{All}
 use Rattle.lw_words.specs.Word.{Answer, AreAnswers, IsWhole, IsWord}
 use Rattle.lw_mealy.specs.Machine.{Rows, IsMachine, answer, Gives, MealyMachine, mealy_of, AnswersBelow, Sure}
 use Rattle.lw_cache.specs.Clash.{Clash, NothingClashes, IsClear}
 use Rattle.lw_cache.specs.Crowd.{IsCrowd}
 use Rattle.lw_cache.specs.Known.{IsKnown, Reads}
 use Rattle.lw_separate.specs.Canonical.{IsCanonical}
+use Rattle.lw_plain.specs.Rounds.{Task, LearnsPlainly}
 use Rattle.lw_suite.specs.Suite.{IsSuite}
 use Rattle.lw_chunks.specs.declared.method.Method.{Method}
 use Rattle.lw_rounds.specs.Learned.{IsCertified, IsEnoughFor, IsTooMany, IsTooLarge}
@@ -108,3 +110,14 @@ RenamedIsTooLarge = (f g : ℕ
 abbrev pub OutputsOccur : Type 0
 OutputsOccur = (a b k n : ℕ) (ks : List Answer) (model : MealyMachine) → AreAnswers a ks
     → IsCertified a b k ks model → OutsBelow n ks → AnswersBelow n model.rows
+
+-- the task of learning a renamed machine
+abbrev pub renamed_task : (ℕ → ℕ) → Task → Task
+renamed_task f task = record { letters = task.letters; machine = renamed_rows f task.machine; extra = task.extra; most = task.most }
+
+-- the plain learner asks the same of a renamed machine, and comes to the renamed model
+abbrev pub RenamedLearnsPlainly : Type 0
+RenamedLearnsPlainly = (f g : ℕ → ℕ) (task : Task) (given : List (List ℕ)) (model : Rows) (refinements : ℕ) (batches : List (List (List ℕ)))
+    → Renames f g → IsMachine task.letters task.machine → All (IsWord task.letters) given
+    → LearnsPlainly task given model refinements batches
+    → LearnsPlainly (renamed_task f task) given (renamed_rows f model) refinements batches

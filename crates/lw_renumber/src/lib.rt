@@ -12,5 +12,6 @@ pub use laws::{
 pub use model_laws::{
     outputs_occur, renamed_is_canonical, renamed_is_certified, renamed_is_enough, renamed_is_least,
     renamed_is_suite, renamed_is_sure, renamed_is_too_large, renamed_is_too_many,
+    renamed_learns_plainly,
 };
 pub use sorting::sort_outputs;

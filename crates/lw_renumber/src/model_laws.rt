@@ -1,5 +1,5 @@
 //! Outputs under other names change nothing of what was learned. Each law is a function with no code, whose contract is the law.
-ghost use Rattle.lw_renumber.specs.Laws.{RenamedIsCanonical, RenamedIsSuite, RenamedIsSure, RenamedIsCertified, RenamedIsEnough, RenamedIsLeast, RenamedIsTooMany, RenamedIsTooLarge, OutputsOccur};
+ghost use Rattle.lw_renumber.specs.Laws.{RenamedIsCanonical, RenamedIsSuite, RenamedIsSure, RenamedIsCertified, RenamedIsEnough, RenamedIsLeast, RenamedIsTooMany, RenamedIsTooLarge, RenamedLearnsPlainly, OutputsOccur};
 
 /// The canonical form of a machine, renamed, is that of the renamed machine.
 pub fn renamed_is_canonical()
@@ -44,4 +44,9 @@ pub fn renamed_is_too_large()
 /// Each output of a certified model came in an answer.
 pub fn outputs_occur()
     ensures { OutputsOccur }
+{}
+
+/// The plain learner asks the same of a renamed machine, and comes to the renamed model.
+pub fn renamed_learns_plainly()
+    ensures { RenamedLearnsPlainly }
 {}

@@ -4,5 +4,6 @@ mod DifferenceLemmas
 mod HypothesisLemmas
 pub mod LawLemmas
 mod LearnerLemmas
+mod PlainLemmas
 mod RoundLemmas
 mod StopLemmas

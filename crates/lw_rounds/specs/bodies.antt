@@ -1,3 +1,4 @@
 -- What the contracts of private functions cite, and no public clause.
 pub mod Conformance
+pub mod Plain
 pub mod Rounds

@@ -1,11 +1,13 @@
 //! The words of a suite are settled until the hypothesis differs on one.
-ghost use Rattle.std.specs.Prelude.{◌≡◌, ◌<◌, ◌^◌, length, IfOk};
+ghost use Rattle.std.specs.Prelude.{◌≡◌, ◌<◌, ◌^◌, length, IfOk, OnOk};
 ghost use Rattle.std.specs.List.{All};
 ghost use Rattle.lw_words.specs.Word.{answers_of, IsWord};
 ghost use Rattle.lw_mealy.specs.Machine.{Gives};
 ghost use Rattle.lw_cache.specs.Clash.{NothingClashes};
 ghost use Rattle.lw_cache.specs.Settling.{Keeps, MayAsk, Leaves, asked_stop};
+ghost use Rattle.lw_plain.specs.Turns.{AsksBatch};
 ghost use Rattle.lw_rounds.specs.bodies.Conformance.{FindsFirst, Comes};
+ghost use Rattle.lw_rounds.specs.bodies.Plain.{TestsPlainly};
 
 use crate::difference::{first_difference, gives_from};
 use crate::watcher::Account;
@@ -35,6 +37,8 @@ fn settle_words<O: Oracle>(
         words.now) }
     ensures first { IfOk result (FindsFirst hypothesis.now.rows
         (answers_of (O.state oracle.new).kept) words.now) }
+    ensures plainly { OnOk result (AsksBatch words.now (O.state oracle.old)
+        (O.state oracle.new)) }
     ensures leaves { Leaves (O.state oracle.old) (O.state oracle.new) (asked_stop result) }
     ensures can { O.can_settle oracle.new }
 {
@@ -64,6 +68,8 @@ fn settle_chunks<O: Oracle, S: Chunks, W: Watcher>(
     requires gives { Gives hypothesis.now.rows (answers_of (O.state oracle.old).kept) }
     ensures comes { IfOk result (Comes hypothesis.now.rows (answers_of (O.state oracle.new).kept)
         (S.left suite.old)) }
+    ensures plainly { IfOk result (λ found. TestsPlainly hypothesis.now.rows (S.left suite.old)
+        found (O.state oracle.old) (O.state oracle.new)) }
     ensures leaves { Leaves (O.state oracle.old) (O.state oracle.new) (asked_stop result) }
     ensures can { O.can_settle oracle.new }
 {
@@ -94,6 +100,8 @@ pub fn settle_suite<O: Oracle, S: Chunks, W: Watcher>(
     requires gives { Gives hypothesis.now.rows (answers_of (O.state oracle.old).kept) }
     ensures comes { IfOk result (Comes hypothesis.now.rows (answers_of (O.state oracle.new).kept)
         (S.left suite.old)) }
+    ensures plainly { IfOk result (λ found. TestsPlainly hypothesis.now.rows (S.left suite.old)
+        found (O.state oracle.old) (O.state oracle.new)) }
     ensures leaves { Leaves (O.state oracle.old) (O.state oracle.new) (asked_stop result) }
     ensures can { O.can_settle oracle.new }
 {

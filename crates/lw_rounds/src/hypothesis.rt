@@ -12,6 +12,7 @@ ghost use Rattle.lw_chunks.specs.declared.size.SuiteFault.{SuiteFault as Fault};
 ghost use Rattle.lw_rounds.specs.Learned.{IsCertified, IsEnoughFor};
 ghost use Rattle.lw_rounds.specs.Learner.{IsRead, HasNoTemporary, IsMachineOf};
 ghost use Rattle.lw_rounds.specs.Stops.{learn_stop};
+ghost use Rattle.lw_rounds.specs.bodies.Plain.{TellsPlainly, TellsBySuite, TellsByForm};
 ghost use Rattle.lw_rounds.specs.bodies.Rounds.{HasCrowd, IsTested, StopsTest, of_fault};
 
 use crate::conformance::settle_suite;
@@ -87,6 +88,8 @@ fn settle_and_certify<O: Oracle, S: Chunks, W: Watcher>(
         greatest_suite }
     ensures tested { IfOk result (IsTested hypothesis.now settings.suite settings.extra
         (answers_of (O.state oracle.new).kept)) }
+    ensures plainly { IfOk result (λ told. TellsPlainly hypothesis.now.rows (S.left suite.old) model
+        told (O.state oracle.old) (O.state oracle.new)) }
     ensures stops { IfErr result (StopsTest hypothesis.now.inputs hypothesis.now.outputs
         settings.extra (length hypothesis.now.rows) (answers_of (O.state oracle.new).kept)) }
     ensures leaves { Leaves (O.state oracle.old) (O.state oracle.new) (learn_stop result) }
@@ -140,6 +143,8 @@ fn test_with<O: Oracle, S: Chunks + Drop, W: Watcher>(
         (greatest_suite < size) }
     ensures tested { IfOk result (IsTested hypothesis.now settings.suite settings.extra
         (answers_of (O.state oracle.new).kept)) }
+    ensures plainly { IfOk result (λ told. TellsBySuite hypothesis.now.rows settings.suite
+        settings.extra model told (O.state oracle.old) (O.state oracle.new)) }
     ensures stops { IfErr result (StopsTest hypothesis.now.inputs hypothesis.now.outputs
         settings.extra (length hypothesis.now.rows) (answers_of (O.state oracle.new).kept)) }
     ensures leaves { Leaves (O.state oracle.old) (O.state oracle.new) (learn_stop result) }
@@ -178,6 +183,8 @@ pub fn test_by_suite<O: Oracle, W: Watcher>(
     requires settled { HasNoTemporary learner.now }
     ensures tested { IfOk result (IsTested hypothesis.now settings.suite settings.extra
         (answers_of (O.state oracle.new).kept)) }
+    ensures plainly { IfOk result (λ told. TellsByForm hypothesis.now settings.suite
+        settings.extra told (O.state oracle.old) (O.state oracle.new)) }
     ensures stops { IfErr result (StopsTest hypothesis.now.inputs hypothesis.now.outputs
         settings.extra (length hypothesis.now.rows) (answers_of (O.state oracle.new).kept)) }
     ensures leaves { Leaves (O.state oracle.old) (O.state oracle.new) (learn_stop result) }

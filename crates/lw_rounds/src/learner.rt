@@ -6,6 +6,7 @@ ghost use Rattle.lw_cache.specs.Cut.{IsCut};
 ghost use Rattle.lw_cache.specs.Settling.{Keeps, MayAsk, Leaves, grown_stop};
 ghost use Rattle.lw_settle.specs.declared.settling.Settled.TheVariants.{NoBlock};
 ghost use Rattle.lw_rounds.specs.Learner.{inputs_of, outputs_of, access_of, refinements_of, IsLearner, IsRead, IsClosedLearner, IsMachineOf};
+ghost use Rattle.lw_rounds.specs.bodies.Plain.{IsNewTable, ClosesAsPlain, RefinesAsPlain};
 ghost use Rattle.lw_rounds.specs.bodies.Rounds.{IsNew, Grows, SettlesBlock};
 
 use crate::Settings;
@@ -43,7 +44,9 @@ impl Learner {
     ) -> Result<Learner, NoMemory>
         requires inputs { (1 ≤ inputs) × (inputs ≤ 64) }
         requires outputs { (1 ≤ outputs) × (outputs ≤ 4096) }
-        ensures { IfOk result (IsNew settings.kind inputs outputs
+        ensures is_new { IfOk result (IsNew settings.kind inputs outputs
+            settings.max_states) }
+        ensures table { IfOk result (IsNewTable settings.kind inputs outputs
             settings.max_states) }
     {
         let max_states = settings.max_states;
@@ -100,6 +103,8 @@ impl Learner {
         requires outputs { outputs_of self.old ≡ (O.state oracle.old).outputs }
         requires read { IsRead (answers_of (O.state oracle.old).kept) self.old }
         ensures grows { Grows (answers_of (O.state oracle.new).kept) self.old self.new result }
+        ensures plainly { OnOk result (ClosesAsPlain self.old self.new (O.state oracle.old)
+            (O.state oracle.new)) }
         ensures leaves { Leaves (O.state oracle.old) (O.state oracle.new) (grown_stop result) }
         ensures can { O.can_settle oracle.new }
     {
@@ -121,6 +126,8 @@ impl Learner {
             (answers_of (O.state oracle.old).kept) (inputs_of self.old) m (access_of self.old)
             cut.now }
         ensures grows { Grows (answers_of (O.state oracle.new).kept) self.old self.new result }
+        ensures plainly { OnOk result (RefinesAsPlain cut.now.suffix self.old self.new
+            (O.state oracle.old) (O.state oracle.new)) }
         ensures more { OnOk result (length (access_of self.old) < length (access_of self.new)) }
         ensures leaves { Leaves (O.state oracle.old) (O.state oracle.new) (grown_stop result) }
         ensures can { O.can_settle oracle.new }

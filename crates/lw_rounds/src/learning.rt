@@ -4,8 +4,10 @@ ghost use Rattle.lw_words.specs.Word.{answers_of};
 ghost use Rattle.lw_cache.specs.Clash.{NothingClashes};
 ghost use Rattle.lw_cache.specs.Settling.{MayAsk, Leaves};
 ghost use Rattle.lw_rounds.specs.Learned.{IsEnoughFor, IsLearned, StopsAs};
-ghost use Rattle.lw_rounds.specs.Learner.{inputs_of, outputs_of, IsRead};
+ghost use Rattle.lw_rounds.specs.Learner.{inputs_of, outputs_of, refinements_of, IsRead};
+ghost use Rattle.lw_rounds.specs.Plain.{LearnsAsPlain};
 ghost use Rattle.lw_rounds.specs.Stops.{learn_stop};
+ghost use Rattle.lw_rounds.specs.bodies.Plain.{LearnsFromNew};
 ghost use Rattle.lw_rounds.specs.bodies.Rounds.{IsLearnedFrom, StopsFrom};
 
 use crate::rounds::rounds;
@@ -31,6 +33,8 @@ fn learn_from<O: Oracle, W: Watcher>(
     requires read { IsRead (answers_of (O.state oracle.old).kept) learner.old }
     ensures learned { IfOk result (λ model. IsLearnedFrom learner.old settings.suite settings.extra
         (answers_of (O.state oracle.new).kept) model learner.new) }
+    ensures plainly { IfOk result (λ model. LearnsFromNew learner.old learner.new settings.suite
+        settings.extra model.rows (O.state oracle.old) (O.state oracle.new)) }
     ensures stops { IfErr result (StopsFrom learner.old settings.extra
         (answers_of (O.state oracle.new).kept)) }
     ensures leaves { Leaves (O.state oracle.old) (O.state oracle.new) (learn_stop result) }
@@ -70,6 +74,9 @@ pub fn learn<O: Oracle, W: Watcher>(
         (answers_of (O.state oracle.new).kept) l.model l.learner) }
     ensures enough { IfOk result (λ l. IsEnoughFor settings.suite (O.state oracle.old).inputs
         settings.extra (answers_of (O.state oracle.new).kept) l.model) }
+    ensures plainly { IfOk result (λ l. LearnsAsPlain settings.kind settings.suite
+        (O.state oracle.old).inputs settings.extra settings.max_states l.model.rows
+        (refinements_of l.learner) (O.state oracle.old) (O.state oracle.new)) }
     ensures stops { IfErr result (StopsAs (O.state oracle.old).inputs
         (O.state oracle.old).outputs settings.extra settings.max_states
         (answers_of (O.state oracle.new).kept)) }

@@ -6,6 +6,7 @@ ghost use Rattle.lw_cache.specs.Against.{Differs};
 ghost use Rattle.lw_cache.specs.Settling.{Leaves, grown_stop};
 ghost use Rattle.lw_rounds.specs.Learner.{inputs_of, outputs_of, most_of, HasNoTemporary, IsMachineOf};
 ghost use Rattle.lw_rounds.specs.Stops.{learn_stop};
+ghost use Rattle.lw_rounds.specs.bodies.Plain.{RefinesByWord, RoundsAsPlain, EndsAsPlain};
 ghost use Rattle.lw_rounds.specs.bodies.Rounds.{IsReady, IsAlike, GoesOn, IsLearnedFrom, StopsFrom, StopsGrowth};
 
 use crate::hypothesis::{Tested, test_by_suite};
@@ -35,6 +36,8 @@ fn refine<O: Oracle, W: Watcher>(
     ensures ready { OnOk result (IsReady (O.state oracle.new) learner.new) }
     ensures alike { IsAlike learner.old learner.new }
     ensures goes { OnOk result (GoesOn learner.old learner.new) }
+    ensures plainly { OnOk result (RefinesByWord hypothesis.now.rows word.now learner.old
+        learner.new (O.state oracle.old) (O.state oracle.new)) }
     ensures stops { IfErr result (StopsGrowth (most_of learner.old)
         (answers_of (O.state oracle.new).kept)) }
     ensures leaves { Leaves (O.state oracle.old) (O.state oracle.new) (grown_stop result) }
@@ -68,6 +71,8 @@ fn round_by_suite<O: Oracle, W: Watcher>(
     ensures goes { IfOk result (λ found. MatchOption found (GoesOn learner.old learner.new)
         (λ model. IsLearnedFrom learner.old settings.suite settings.extra
         (answers_of (O.state oracle.new).kept) model learner.new)) }
+    ensures plainly { IfOk result (λ found. RoundsAsPlain learner.old learner.new settings.suite
+        settings.extra found (O.state oracle.old) (O.state oracle.new)) }
     ensures stops { IfErr result (StopsFrom learner.old settings.extra
         (answers_of (O.state oracle.new).kept)) }
     ensures leaves { Leaves (O.state oracle.old) (O.state oracle.new) (learn_stop result) }
@@ -104,6 +109,8 @@ fn round_with<O: Oracle, W: Watcher>(
     ensures goes { IfOk result (λ found. MatchOption found (GoesOn learner.old learner.new)
         (λ model. IsLearnedFrom learner.old settings.suite settings.extra
         (answers_of (O.state oracle.new).kept) model learner.new)) }
+    ensures plainly { IfOk result (λ found. RoundsAsPlain learner.old learner.new settings.suite
+        settings.extra found (O.state oracle.old) (O.state oracle.new)) }
     ensures stops { IfErr result (StopsFrom learner.old settings.extra
         (answers_of (O.state oracle.new).kept)) }
     ensures leaves { Leaves (O.state oracle.old) (O.state oracle.new) (learn_stop result) }
@@ -138,6 +145,8 @@ fn round<O: Oracle, W: Watcher>(
     ensures goes { IfOk result (λ found. MatchOption found (GoesOn learner.old learner.new)
         (λ model. IsLearnedFrom learner.old settings.suite settings.extra
         (answers_of (O.state oracle.new).kept) model learner.new)) }
+    ensures plainly { IfOk result (λ found. RoundsAsPlain learner.old learner.new settings.suite
+        settings.extra found (O.state oracle.old) (O.state oracle.new)) }
     ensures stops { IfErr result (StopsFrom learner.old settings.extra
         (answers_of (O.state oracle.new).kept)) }
     ensures leaves { Leaves (O.state oracle.old) (O.state oracle.new) (learn_stop result) }
@@ -161,6 +170,8 @@ pub fn rounds<O: Oracle, W: Watcher>(
     requires ready { IsReady (O.state oracle.old) learner.old }
     ensures learned { IfOk result (λ model. IsLearnedFrom learner.old settings.suite settings.extra
         (answers_of (O.state oracle.new).kept) model learner.new) }
+    ensures plainly { IfOk result (λ model. EndsAsPlain learner.old learner.new settings.suite
+        settings.extra model.rows (O.state oracle.old) (O.state oracle.new)) }
     ensures stops { IfErr result (StopsFrom learner.old settings.extra
         (answers_of (O.state oracle.new).kept)) }
     ensures leaves { Leaves (O.state oracle.old) (O.state oracle.new) (learn_stop result) }

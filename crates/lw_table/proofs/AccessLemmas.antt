@@ -20,7 +20,7 @@ nothing (suc n) zero = refl
 nothing (suc n) (suc i) = nothing n i
 
 -- access word 0 has row 0
-first_home : (t : TableState) → IsTable t → home_at t 0 ≡ 0
+pub first_home : (t : TableState) → IsTable t → home_at t 0 ≡ 0
 first_home t g =
     ⊎_elim
     (λ (z : (0 ≡ 0) × (word_at t.access 0 ≡ []) × (home_at t 0 ≡ 0)). z.2)

@@ -9,6 +9,9 @@ mod IndexLemmas
 pub mod MachineLemmas
 pub mod NewLemmas
 mod NumberedLemmas
+pub mod OpenLemmas
+mod PlainCloseLemmas
+pub mod PlainLemmas
 mod RefineLemmas
 mod RowLemmas
 mod StepLemmas

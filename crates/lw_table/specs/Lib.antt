@@ -1,4 +1,5 @@
 pub mod Grown
 pub mod Laws
+pub mod Plain
 pub mod Table
 pub mod bodies

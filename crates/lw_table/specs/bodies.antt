@@ -3,6 +3,7 @@ pub mod Classes
 pub mod Filling
 pub mod Growing
 pub mod Numbered
+pub mod Plain
 pub mod Rows
 pub mod Steps
 pub mod Transitions

@@ -1,12 +1,14 @@
 //! Cells that aren't filled: their words, and what is known of them.
-ghost use Rattle.std.specs.Prelude.{◌≡◌, ◌≢◌, ℕ, ◌+◌, ◌*◌, ◌<◌, ◌≤◌, ◌^◌, List, ◌++◌, length, IfOk, OnOk, Contains};
+ghost use Rattle.std.specs.Prelude.{◌≡◌, ◌≢◌, ℕ, ◌+◌, ◌*◌, ◌<◌, ◌≤◌, ◌^◌, List, ◌++◌, length, map, drop, IfOk, OnOk, Contains};
 ghost use Rattle.std.specs.List.{All, AllPairs};
 ghost use Rattle.lw_words.specs.Word.{AreAnswers, answers_of, IsWord};
 ghost use Rattle.lw_cache.specs.Known.{IsKnown};
+ghost use Rattle.lw_plain.specs.Table.{row_cells};
 ghost use Rattle.lw_table.specs.Grown.{IsCellWord, IsWordOfRow};
 ghost use Rattle.lw_table.specs.bodies.Classes.{row_of};
 ghost use Rattle.lw_table.specs.bodies.Rows.{IsRowWord, class_at, cells_at};
 ghost use Rattle.lw_table.specs.bodies.Filling.{EachCell, EachRow, IsCellOf, GoesOn, GoOn};
+ghost use Rattle.lw_table.specs.bodies.Plain.{open_from};
 
 use crate::classes::Classes;
 use crate::rows::{Row, row_word};
@@ -23,6 +25,8 @@ pub(crate) fn add_cells(
 ) -> Result<(), NoMemory>
     requires from { from ≤ length suffixes.now }
     ensures more { (more : List (List ℕ)) × (words.new ≡ words.old ++ more) }
+    ensures row { OnOk result
+        (words.new ≡ words.old ++ row_cells (drop from suffixes.now) word.now) }
     ensures each { OnOk result (EachCell (Contains words.new) suffixes.now word.now from
         (length suffixes.now)) }
     ensures letters { (a : ℕ) → IsWord a word.now → All (IsWord a) suffixes.now →
@@ -106,6 +110,8 @@ pub(crate) fn unfilled(
     ensures letters { IfOk result (All (IsWord inputs)) }
     ensures cells { IfOk result (All (IsCellWord inputs access.now suffixes.now)) }
     ensures small { IfOk result (λ words. length words < 2 ^ 32) }
+    ensures left_open { IfOk result (λ words. words ≡ open_from inputs access.now suffixes.now
+        (map (λ r. r.cells) rows.now) first) }
 {
     let mut words = Words::new(alloc);
     for row in first..rows.len() {

@@ -5,8 +5,10 @@ ghost use Rattle.lw_cache.specs.Cut.{IsCut};
 ghost use Rattle.lw_cache.specs.Settling.{Keeps, MayAsk, GainsOnly, Leaves, grown_stop};
 ghost use Rattle.lw_mealy.specs.Machine.{Rows};
 ghost use Rattle.lw_table.specs.Grown.{HasGrown, TellsCrowd, IsCellWordOf, HasClosed, HasRefined};
+ghost use Rattle.lw_table.specs.Plain.{ClosesPlainly, RefinesPlainly};
 ghost use Rattle.lw_table.specs.Table.{row_at, access_row, IsTable, CellsAreRead, IsClosedTable, IsMachineOf};
 ghost use Rattle.lw_table.specs.bodies.Growing.{AreFull, HasState, HaveStates, refined_once};
+ghost use Rattle.lw_table.specs.bodies.Plain.{AddsPlainly};
 ghost use Rattle.lw_table.specs.bodies.Rows.{IsRowWord};
 
 use crate::ObservationTable;
@@ -68,6 +70,8 @@ impl ObservationTable {
         ensures crowd { TellsCrowd (answers_of (O.state oracle.new).kept) self.new result }
         ensures asks { GainsOnly (IsCellWordOf self.new) (O.state oracle.old).kept
             (O.state oracle.new).kept }
+        ensures plainly { OnOk result (AddsPlainly row self.old self.new (O.state oracle.old)
+            (O.state oracle.new)) }
         ensures leaves { Leaves (O.state oracle.old) (O.state oracle.new) (grown_stop result) }
         ensures can { O.can_settle oracle.new }
     {
@@ -95,6 +99,8 @@ impl ObservationTable {
         ensures closes { HasClosed (answers_of (O.state oracle.new).kept) self.old self.new result }
         ensures asks { GainsOnly (IsCellWordOf self.new) (O.state oracle.old).kept
             (O.state oracle.new).kept }
+        ensures plainly { OnOk result (ClosesPlainly self.old self.new (O.state oracle.old)
+            (O.state oracle.new)) }
         ensures leaves { Leaves (O.state oracle.old) (O.state oracle.new) (grown_stop result) }
         ensures can { O.can_settle oracle.new }
     {
@@ -135,6 +141,8 @@ impl ObservationTable {
             self.new result }
         ensures asks { GainsOnly (IsCellWordOf self.new) (O.state oracle.old).kept
             (O.state oracle.new).kept }
+        ensures plainly { OnOk result (RefinesPlainly cut.now.suffix self.old self.new
+            (O.state oracle.old) (O.state oracle.new)) }
         ensures leaves { Leaves (O.state oracle.old) (O.state oracle.new) (grown_stop result) }
         ensures can { O.can_settle oracle.new }
     {

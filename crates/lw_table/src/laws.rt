@@ -1,5 +1,6 @@
 //! Laws of the definitions. Each is a function with no code, whose contract is the law.
 ghost use Rattle.lw_table.specs.Laws.{NewIsRead, CellsStay, HasMachine, OneMachine, AccessLeads, MachineGivesCells, AccessIsCrowd};
+ghost use Rattle.lw_table.specs.Plain.{NewIsFirst, MachineIsPlain};
 
 /// A new table has no cell that could be read otherwise.
 pub fn new_is_read()
@@ -34,4 +35,14 @@ pub fn machine_gives_cells()
 /// Any two access words are apart.
 pub fn access_is_crowd()
     ensures { AccessIsCrowd }
+{}
+
+/// A new table is the one that the plain learner begins with, once its cells are asked.
+pub fn new_is_first()
+    ensures { NewIsFirst }
+{}
+
+/// The machine of a closed table is the plain learner's.
+pub fn machine_is_plain()
+    ensures { MachineIsPlain }
 {}

@@ -12,6 +12,6 @@ mod table;
 
 pub use laws::{
     access_is_crowd, access_leads, cells_stay, closed_has_machine, machine_gives_cells,
-    new_is_read, one_machine,
+    machine_is_plain, new_is_first, new_is_read, one_machine,
 };
 pub use table::ObservationTable;

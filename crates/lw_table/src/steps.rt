@@ -4,12 +4,15 @@ ghost use Rattle.std.specs.HashMap.{get, spare, Updates};
 ghost use Rattle.std.specs.List.{All, AllPairs};
 ghost use Rattle.lw_words.specs.Word.{Answer, answers_of, IsWord};
 ghost use Rattle.lw_cache.specs.Settling.{Keeps, MayAsk, GainsOnly, Leaves, asked_stop};
+ghost use Rattle.lw_plain.specs.Turns.{AsksBatch};
 ghost use Rattle.lw_table.specs.Grown.{HasGrown, IsCellWord, IsCellWordOf};
+ghost use Rattle.lw_table.specs.Plain.{open_words};
 ghost use Rattle.lw_table.specs.Table.{row_at, home_at, access_row, IsTable, CellsAreRead};
 ghost use Rattle.lw_table.specs.bodies.Classes.{row_of};
 ghost use Rattle.lw_table.specs.bodies.Filling.{GoOn};
 ghost use Rattle.lw_table.specs.bodies.Growing.{AreFull, AreFullBelow, ChangesCells, HasAdded, with_suffix};
 ghost use Rattle.lw_table.specs.bodies.Numbered.{AreNumbered};
+ghost use Rattle.lw_table.specs.bodies.Plain.{open_from, open_behind};
 ghost use Rattle.lw_table.specs.bodies.Rows.{no_cells, class_at};
 
 use crate::ObservationTable;
@@ -52,6 +55,8 @@ fn answered<O: Oracle>(
         access.now suffixes.now classes.old rows.now first classes.new filled.items) }
     ensures asks { GainsOnly (IsCellWord inputs access.now suffixes.now)
         (O.state oracle.old).kept (O.state oracle.new).kept }
+    ensures plainly { OnOk result (AsksBatch (open_from inputs access.now suffixes.now
+        (map (λ r. r.cells) rows.now) first) (O.state oracle.old) (O.state oracle.new)) }
     ensures leaves { Leaves (O.state oracle.old) (O.state oracle.new) (asked_stop result) }
     ensures can { O.can_settle oracle.new }
 {
@@ -112,6 +117,8 @@ impl ObservationTable {
         ensures full { OnOk result (AreFull self.new) }
         ensures asks { GainsOnly (IsCellWordOf self.new) (O.state oracle.old).kept
             (O.state oracle.new).kept }
+        ensures plainly { OnOk result (AsksBatch (open_words self.old) (O.state oracle.old)
+            (O.state oracle.new)) }
         ensures leaves { Leaves (O.state oracle.old) (O.state oracle.new) (asked_stop result) }
         ensures can { O.can_settle oracle.new }
     {
@@ -144,6 +151,8 @@ impl ObservationTable {
         ensures full { OnOk result (AreFull self.new) }
         ensures asks { GainsOnly (IsCellWordOf self.new) (O.state oracle.old).kept
             (O.state oracle.new).kept }
+        ensures plainly { OnOk result (AsksBatch (open_behind self.old first)
+            (O.state oracle.old) (O.state oracle.new)) }
         ensures leaves { Leaves (O.state oracle.old) (O.state oracle.new) (asked_stop result) }
         ensures can { O.can_settle oracle.new }
     {

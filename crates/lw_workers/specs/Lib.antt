@@ -1,4 +1,5 @@
 pub mod Asking
 pub mod Leaving
 pub mod Machines
+pub mod Plain
 pub mod bodies

@@ -5,8 +5,10 @@ ghost use Rattle.lw_words.specs.Word.{answers_of, IsWord};
 ghost use Rattle.lw_cache.specs.Clash.{NothingClashes};
 ghost use Rattle.lw_cache.specs.Settling.{MayAsk, Leaves, asked_stop};
 ghost use Rattle.lw_rounds.specs.Learned.{IsEnoughFor, IsLearned, StopsAs};
+ghost use Rattle.lw_rounds.specs.Learner.{refinements_of};
 ghost use Rattle.lw_rounds.specs.Stops.{learn_stop};
 ghost use Rattle.lw_workers.specs.Asking.{AnswersWords};
+ghost use Rattle.lw_workers.specs.bodies.Plain.{AsksGiven, LearnsGiven};
 
 use lw_cache::{AskStop, Oracle};
 use lw_rounds::{LearnStop, Learned, Phase, Settings, Step, Watcher, learn};
@@ -38,6 +40,7 @@ fn settle_named<O: Oracle, W: Watcher>(
     requires letters { All (IsWord (O.state oracle.old).inputs) words.now }
     requires few { length words.now < 2 ^ 32 }
     ensures asked { OnOk result (AnswersWords words.now (O.state oracle.new).kept) }
+    ensures plainly { OnOk result (AsksGiven words.now (O.state oracle.old) (O.state oracle.new)) }
     ensures leaves { Leaves (O.state oracle.old) (O.state oracle.new) (asked_stop result) }
     ensures can { O.can_settle oracle.new }
 {
@@ -71,6 +74,9 @@ pub fn learn_after<O: Oracle, W: Watcher>(
         (answers_of (O.state oracle.new).kept) l.model l.learner) }
     ensures enough { IfOk result (λ l. IsEnoughFor settings.suite (O.state oracle.old).inputs
         settings.extra (answers_of (O.state oracle.new).kept) l.model) }
+    ensures plainly { IfOk result (λ l. LearnsGiven settings.kind settings.suite
+        (O.state oracle.old).inputs settings.extra settings.max_states words.now l.model.rows
+        (refinements_of l.learner) (O.state oracle.old) (O.state oracle.new)) }
     ensures stops { IfErr result (StopsAs (O.state oracle.old).inputs
         (O.state oracle.old).outputs settings.extra settings.max_states
         (answers_of (O.state oracle.new).kept)) }

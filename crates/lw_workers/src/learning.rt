@@ -9,6 +9,7 @@ ghost use Rattle.lw_rounds.specs.Learned.{IsEnoughFor, IsLearned, StopsAs};
 ghost use Rattle.lw_rounds.specs.Stops.{learn_stop};
 ghost use Rattle.lw_workers.specs.Asking.{AnswersWords};
 ghost use Rattle.lw_workers.specs.Leaving.{HasLearned};
+ghost use Rattle.lw_workers.specs.Plain.{RunsAsPlain};
 
 use crate::asking::learn_after;
 use lw_pool::{ByCall, Pool};
@@ -48,6 +49,8 @@ pub fn learn_with<S: Sul + Send, R: Threads + Wait + Sync, W: Watcher>(
         l.learner) }
     ensures enough { IfOk result.learned (λ l. IsEnoughFor settings.suite pool.inputs
         settings.extra (answers_of result.pool.kept) l.model) }
+    ensures plainly { RunsAsPlain settings.kind settings.suite pool.inputs settings.extra
+        settings.max_states words.now result.learned pool.kept result.pool.kept }
     ensures stops { IfErr result.learned (StopsAs pool.inputs pool.outputs settings.extra
         settings.max_states (answers_of result.pool.kept)) }
     ensures leaves { HasLearned pool result.pool (learn_stop result.learned) }

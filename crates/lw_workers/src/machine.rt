@@ -8,6 +8,7 @@ ghost use Rattle.lw_pool.specs.Opening.{MayBegin};
 ghost use Rattle.lw_rounds.specs.Learned.{IsEnoughFor, IsLearned, StopsAs};
 ghost use Rattle.lw_workers.specs.Asking.{AnswersWords};
 ghost use Rattle.lw_workers.specs.Machines.{IsMachineStop, KeepsRuns, IsReached, IsWithin};
+ghost use Rattle.lw_workers.specs.Plain.{RunsAsPlain};
 ghost use Rattle.lw_workers.specs.bodies.Instances.{AreInstances, IsPoolOf};
 
 use crate::{LearnedWith, LearningOutcome, Start, learn_with};
@@ -99,6 +100,8 @@ pub fn learn_machine<R: Threads + Wait + Sync + Drop, W: Watcher>(
         l.model l.learner) }
     ensures enough { IfOk result.learned (λ l. IsEnoughFor settings.suite system.now.inputs
         settings.extra (answers_of result.kept.answers) l.model) }
+    ensures plainly { RunsAsPlain settings.kind settings.suite system.now.inputs settings.extra
+        settings.max_states start.words result.learned start.cache.kept result.kept.answers }
     ensures stops { IfErr result.learned (StopsAs system.now.inputs system.now.outputs
         settings.extra settings.max_states (answers_of result.kept.answers)) }
     ensures caused { IfErr result.learned (IsMachineStop result.kept.answers) }

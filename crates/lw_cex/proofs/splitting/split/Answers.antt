@@ -1,5 +1,6 @@
 use Rattle.std.proofs.Common.{arith, sym, ◌∙◌}
 use Rattle.lw_words.specs.Word.{answers_of}
+use Rattle.lw_cex.proofs.PlainLemmas.{splits_plainly}
 use Rattle.lw_cex.proofs.SearchLemmas.{starts, some_letter, steps_more, cut_is}
 use Rattle.lw_cache.proofs.SettlingLemmas.{kept_are_answers, differs_is_word}
 use Rattle.lw_cex.proofs.splitting.split.Goals as goal
@@ -34,3 +35,7 @@ returns-clause-cut g c =
     (kept_are_answers now a (c.requires.inputs ∙ sym leaves.same.inputs) leaves.keeps)
     (steps_more a m c.args.access.now before.kept leaves.gained now.kept leaves.at_end c.requires.steps)
     c.in_ok-place.ensures.between c.in_ok-cut_at.ensures
+
+pub returns-clause-plainly : goal.returns-clause-plainly
+returns-clause-plainly g c =
+    splits_plainly c.args.model.now.rows c.args.access.now c.args.word.now c.in_ok-place.place c.in_ok-cut_at.field-0.suffix (g.O.Oracle.state c.args.oracle.now) (g.O.Oracle.state c.breakpoint.new.oracle) c.in_ok-cut_at.ensures.suffix c.in_ok-place.ensures.plainly

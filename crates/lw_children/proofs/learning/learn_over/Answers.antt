@@ -15,6 +15,7 @@ use Rattle.lw_children.proofs.ComingUp.{came_up_as, first_come_up}
 use Rattle.lw_workers.specs.Asking.{AnswersWords}
 use Rattle.lw_children.proofs.EndLemmas.{all_linked, begun_linked, begun_pool, given_up, of_pool, refused_pool}
 use Rattle.lw_children.proofs.PoolLemmas.{children_join, first_lists, first_shared}
+use Rattle.lw_workers.proofs.PlainLemmas.{plain_never, runs_as}
 use Rattle.lw_children.proofs.learning.learn_over.Goals as goal
 
 pub give_up-requires-clause-linked : goal.give_up-requires-clause-linked
@@ -92,3 +93,13 @@ pub returns-in-Ok-new-clause-enough : goal.returns-in-Ok-new-clause-enough
 returns-in-Ok-new-clause-enough g c =
     let kept = c.learn_and_retire.result.kept.answers in
     enough_as c.args.settings.suite c.in-Ok-new.pool.inputs (length c.args.command.now.inputs) c.args.settings.extra kept kept c.learn_and_retire.result.learned (c.in-Ok-new.ensures.numbers.0 ∙ c.len-inputs.ensures.value) refl c.learn_and_retire.ensures.enough
+
+pub returns-in-Err-clause-plainly : goal.returns-in-Err-clause-plainly
+returns-in-Err-clause-plainly g c =
+    plain_never c.args.settings.kind c.args.settings.suite (length c.args.command.now.inputs) c.args.settings.extra c.args.settings.max_states c.args.start.words c.give_up.result.learned _ c.args.start.cache.kept c.give_up.result.kept.answers c.give_up.ensures.learned
+
+pub returns-in-Ok-new-clause-plainly : goal.returns-in-Ok-new-clause-plainly
+returns-in-Ok-new-clause-plainly g c =
+    let kept = c.learn_and_retire.result.kept.answers in
+    runs_as c.args.settings.kind c.args.settings.suite c.in-Ok-new.pool.inputs (length c.args.command.now.inputs) c.args.settings.extra c.args.settings.max_states c.as_slice.result.now c.args.start.words c.learn_and_retire.result.learned c.in-Ok-new.pool.kept c.args.start.cache.kept
+    kept kept (c.in-Ok-new.ensures.numbers.0 ∙ c.len-inputs.ensures.value) c.as_slice.ensures c.in-Ok-new.ensures.begun.2 refl c.learn_and_retire.ensures.plainly

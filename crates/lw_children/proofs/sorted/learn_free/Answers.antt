@@ -7,6 +7,7 @@ use Rattle.lw_system.specs.NewLines.{count_of}
 use Rattle.lw_children.proofs.AskedLemmas.{asked_sorted, cut_sorted}
 use Rattle.lw_children.proofs.ComingUp.{came_up_undeclared}
 use Rattle.lw_children.proofs.SortedLemmas.{enough_sorted, not_begun, sorted_free, without_outputs}
+use Rattle.lw_children.proofs.PlainLemmas.{plain_sorted}
 use Rattle.lw_children.proofs.sorted.learn_free.Goals as goal
 
 pub returns-in-Err-clause-found : goal.returns-in-Err-clause-found
@@ -52,3 +53,13 @@ returns-clause-enough g c =
     let s = c.sort_outputs.new in
     enough_sorted c.args.settings.suite c.args.settings.kind (length c.args.command.now.inputs) (count_of c.args.command.now.outputs) c.args.settings.extra c.args.settings.max_states s.to was.names.names s.names.names (answers_of was.kept.answers) (answers_of s.kept.answers) was.learned s.learned
     c.sort_outputs.ensures.stays found.keeps.words found.ok c.learn_over-learned.ensures.enough
+
+pub returns-in-Err-clause-plainly : goal.returns-in-Err-clause-plainly
+returns-in-Err-clause-plainly g c = λ is_table by_w none m machine gives. tt
+
+pub returns-clause-plainly : goal.returns-clause-plainly
+returns-clause-plainly g c =
+    let was = c.learn_over-learned.result in
+    let s = c.sort_outputs.new in
+    plain_sorted c.args.settings.kind c.args.settings.suite (length c.args.command.now.inputs) c.args.settings.extra c.args.settings.max_states c.args.start.words s.to was.names.names s.names.names c.args.start.cache.kept was.kept.answers s.kept.answers was.learned s.learned
+    c.sort_outputs.ensures.stays c.sort_outputs.ensures.answers c.requires.named_letters c.learn_over-learned.ensures.found.keeps.words c.learn_over-learned.ensures.plainly

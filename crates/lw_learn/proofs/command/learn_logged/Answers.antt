@@ -56,7 +56,7 @@ returns-in-Ok-clause-ends g c =
     let p = O.state c.learn_read.new.world.out in
     let e = E.state c.args.world.now.err in
     let d = E.state c.learn_read.new.world.err in
-    inr (ends_read c.args.arguments.now f m h b z o p e d c.learn_read.result c.read_worded.result c.in-Ok.worded c.in-Ok.is c.read_worded.ensures c.learn_read.ensures.learned c.learn_read.ensures.answered)
+    inr (ends_read c.args.arguments.now f m h b z o p e d c.learn_read.result c.read_worded.result c.in-Ok.worded c.in-Ok.is c.read_worded.ensures c.learn_read.ensures.learned c.learn_read.ensures.answered c.learn_read.ensures.plainly)
 
 pub returns-in-Ok-clause-counts : goal.returns-in-Ok-clause-counts
 returns-in-Ok-clause-counts g c =

@@ -1,4 +1,6 @@
-use Rattle.lw_learn.proofs.RunLemmas.{answered_end, ends_learned}
+use Rattle.lw_learn.proofs.RunLemmas.{answered_end, ends_learned, plain_end}
+use Rattle.std.proofs.Common.{length}
+use Rattle.lw_system.specs.Systems.{letters_of}
 use Rattle.lw_learn.proofs.command.learn_read.Goals as goal
 
 pub returns-clause-learned : goal.returns-clause-learned
@@ -28,3 +30,9 @@ returns-clause-answered g c some =
     let found = c.learn_system-found in
     let told = c.finish-end.ensures.told.told in
     answered_end c.args.arguments.now.goal c.args.worded.words found.result.learned found.result.kept.answers c.finish-end.result told.carries told.kept_is found.ensures.asked some
+
+pub returns-clause-plainly : goal.returns-clause-plainly
+returns-clause-plainly g c =
+    let found = c.learn_system-found in
+    let told = c.finish-end.ensures.told.told in
+    plain_end c.args.arguments.now.goal c.args.arguments.now (length (letters_of c.args.worded.task.system)) c.args.worded.words c.args.worded.task.cache.kept found.result.learned found.result.kept.answers c.finish-end.result told.carries told.kept_is found.ensures.plainly

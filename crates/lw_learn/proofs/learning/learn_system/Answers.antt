@@ -7,6 +7,7 @@ use Rattle.lw_system.specs.Systems.{declared_of, letters_of}
 use Rattle.lw_learn.specs.bodies.Ready.{GivesModel}
 use Rattle.lw_system.specs.declared.system.System.{System}
 use Rattle.lw_learn.proofs.FoundLemmas.{command_gives, command_named, command_over, command_sizes, command_stops, table_gives, table_over, table_sizes, table_stops}
+use Rattle.lw_workers.specs.Plain.{RunsAsPlain}
 use Rattle.lw_learn.proofs.learning.learn_system.Goals as goal
 
 pub returns-in-Table-clause-model : goal.returns-in-Table-clause-model
@@ -52,3 +53,15 @@ pub returns-in-Children-clause-named : goal.returns-in-Children-clause-named
 returns-in-Children-clause-named g c =
     let m = c.in-Children.command in
     subst (λ (s : System). IfSome (declared_of s) (λ own. c.learn_command.result.names.names ≡ own)) (sym c.in-Children.is) (command_named c.args.arguments.now.learner m.words m.inputs c.args.arguments.now.workers c.args.arguments.now.extra c.args.arguments.now.max_states c.args.start.cache.kept (g.P.Spawner.state c.args.spawner.now) (g.P.Spawner.state c.learn_command.new.spawner) c.learn_command.result.learned c.learn_command.result.kept.answers c.learn_command.result.names.names m.outputs c.learn_command.ensures.found)
+
+pub returns-in-Table-clause-plainly : goal.returns-in-Table-clause-plainly
+returns-in-Table-clause-plainly g c =
+    let a = c.args.arguments.now in
+    let r = c.learn_table.result in
+    subst (λ (s : System). RunsAsPlain a.learner a.suite (length (letters_of s)) a.extra a.max_states c.args.start.words r.learned c.args.start.cache.kept r.kept.answers) (sym c.in-Table.is) c.learn_table.ensures.plainly
+
+pub returns-in-Children-clause-plainly : goal.returns-in-Children-clause-plainly
+returns-in-Children-clause-plainly g c =
+    let a = c.args.arguments.now in
+    let r = c.learn_command.result in
+    subst (λ (s : System). RunsAsPlain a.learner a.suite (length (letters_of s)) a.extra a.max_states c.args.start.words r.learned c.args.start.cache.kept r.kept.answers) (sym c.in-Children.is) c.learn_command.ensures.plainly

@@ -2,7 +2,7 @@ use Rattle.lw_plain_run.proofs.ListLemmas.{map_ended}
 use Rattle.std.proofs.Common.{ℕ, List}
 use Rattle.lw_mealy.specs.Machine.{Row}
 use Rattle.lw_plain.specs.Table.{machine_of, transitions_of}
-use Rattle.lw_plain_run.proofs.MachineLemmas.{machine_within, within_as}
+use Rattle.lw_plain.proofs.MachineLemmas.{machine_within, within_as}
 use Rattle.lw_plain_run.proofs.hypothesis.hypothesis_of.Goals as goal
 
 pub of_rows-requires : goal.of_rows-requires

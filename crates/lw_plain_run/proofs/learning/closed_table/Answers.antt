@@ -1,7 +1,7 @@
 use Rattle.std.proofs.Common.{ℕ, sym, subst, ap, ◌∙◌}
 use Rattle.lw_plain.specs.Table.{first_table}
-use Rattle.lw_plain_run.specs.bodies.Tables.{IsOver}
-use Rattle.lw_plain_run.proofs.TableLemmas.{over_first}
+use Rattle.lw_plain.specs.Over.{IsOver}
+use Rattle.lw_plain.proofs.OverLemmas.{over_first}
 use Rattle.lw_plain_run.proofs.learning.closed_table.Goals as goal
 
 pub close-requires-clause-over : goal.close-requires-clause-over

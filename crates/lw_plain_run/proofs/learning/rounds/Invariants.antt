@@ -1,7 +1,7 @@
 use Rattle.std.proofs.Common.{◌≤◌, length}
 use Rattle.lw_plain.specs.Rounds.{IsRefinedTimes}
 use Rattle.lw_plain_run.specs.Run.{task_of}
-use Rattle.lw_plain_run.specs.bodies.Tables.{IsOver}
+use Rattle.lw_plain.specs.Over.{IsOver}
 use Rattle.lw_plain_run.proofs.learning.rounds.Given as goal
 
 abbrev pub invariant-loop-refinements : goal.invariant-loop-refinements

@@ -1,7 +1,7 @@
 use Rattle.std.proofs.Common.{length, sym, subst}
 use Rattle.lw_plain.specs.Table.{Search, search_word}
-use Rattle.lw_plain_run.specs.bodies.Tables.{IsOver}
-use Rattle.lw_plain_run.proofs.TableLemmas.{over_split}
+use Rattle.lw_plain.specs.Over.{IsOver}
+use Rattle.lw_plain.proofs.OverLemmas.{over_split}
 use Rattle.lw_plain_run.proofs.rounds.refine.Goals as goal
 
 pub close-requires-clause-over : goal.close-requires-clause-over

@@ -6,7 +6,8 @@ use Rattle.lw_plain.specs.Rounds.{asked_words}
 use Rattle.lw_plain_run.specs.bodies.Differences.{IsLeast}
 use Rattle.lw_plain_run.specs.Run.{task_of}
 use Rattle.lw_plain_run.specs.bodies.Rounds.{IsRound}
-use Rattle.lw_plain_run.proofs.RoundLemmas.{known_refines, gives_known, large_suite, by_fault}
+use Rattle.lw_plain.proofs.RoundLemmas.{known_refines, gives_known}
+use Rattle.lw_plain_run.proofs.RoundLemmas.{large_suite, by_fault}
 use Rattle.lw_plain_run.proofs.rounds.round_with.Goals as goal
 
 pub returns-in-Some-clause-round : goal.returns-in-Some-clause-round

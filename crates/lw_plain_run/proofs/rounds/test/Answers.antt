@@ -1,7 +1,8 @@
 use Rattle.std.proofs.Common.{Some}
 use Rattle.lw_plain.specs.Tested.{TestsWords}
 use Rattle.lw_plain_run.specs.Run.{task_of}
-use Rattle.lw_plain_run.proofs.RoundLemmas.{failed_word, suite_refines}
+use Rattle.lw_plain.proofs.RoundLemmas.{suite_refines}
+use Rattle.lw_plain_run.proofs.RoundLemmas.{failed_word}
 use Rattle.lw_plain_run.proofs.rounds.test.Goals as goal
 
 pub test_suite-requires-clause-letters : goal.test_suite-requires-clause-letters

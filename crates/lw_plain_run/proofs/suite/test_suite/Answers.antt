@@ -4,11 +4,11 @@ use Rattle.std.proofs.lemmas.List.Elements.{All-cons, All-nil, All-take, All-dro
 use Rattle.lw_words.specs.Word.{IsWord}
 use Rattle.lw_plain.specs.Table.{with_batches}
 use Rattle.lw_plain.specs.Tested.{FindsFirst, FailsAt}
-use Rattle.lw_plain_run.specs.bodies.Tables.{IsOver}
+use Rattle.lw_plain.specs.Over.{IsOver}
 use Rattle.lw_plain_run.proofs.ListLemmas.{fewer, none_left}
-use Rattle.lw_plain_run.proofs.RoundLemmas.{same_table}
+use Rattle.lw_plain.proofs.RoundLemmas.{same_table}
 use Rattle.lw_plain.proofs.TestedLemmas.{tested_more, tested_all, tested_fails}
-use Rattle.lw_plain_run.proofs.TableLemmas.{over_batches}
+use Rattle.lw_plain.proofs.OverLemmas.{over_batches}
 use Rattle.lw_plain_run.proofs.suite.test_suite.Goals as goal
 
 pub first_difference-requires-clause-letters : goal.first_difference-requires-clause-letters

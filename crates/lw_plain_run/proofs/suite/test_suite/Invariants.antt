@@ -2,7 +2,7 @@ use Rattle.std.proofs.Common.{length}
 use Rattle.std.specs.List.{All}
 use Rattle.lw_words.specs.Word.{IsWord}
 use Rattle.lw_plain.specs.Tested.{HasTested}
-use Rattle.lw_plain_run.specs.bodies.Tables.{IsOver}
+use Rattle.lw_plain.specs.Over.{IsOver}
 use Rattle.lw_plain_run.proofs.suite.test_suite.Given as goal
 
 abbrev pub invariant-loop-chunk : goal.invariant-loop-chunk

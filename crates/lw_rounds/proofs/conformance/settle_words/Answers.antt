@@ -7,6 +7,7 @@ use Rattle.lw_cache.proofs.SettlingLemmas.{kept_are_answers}
 use Rattle.lw_rounds.specs.bodies.Conformance.{FindsFirst}
 use Rattle.lw_rounds.proofs.ConformanceLemmas.{agrees_on_known, comes, gives_later, gives_more}
 use Rattle.lw_rounds.proofs.conformance.settle_words.Given.{Over}
+use Rattle.lw_plain.proofs.TurnLemmas.{settled_is_asked}
 use Rattle.lw_rounds.proofs.conformance.settle_words.Goals as goal
 
 pub returns-clause-comes : goal.returns-clause-comes
@@ -44,3 +45,9 @@ returns-then-gives_from-clause-comes g c = record { gives = gives_now g c; known
 pub returns-then-gives_from-clause-first : goal.returns-then-gives_from-clause-first
 returns-then-gives_from-clause-first g c =
     agrees_on_known c.args.hypothesis.now.rows (answers_of (g.O.Oracle.state c.settle.new.self).kept) c.args.words.now (gives_now g c) c.in_ok-settle.ensures.settles.known
+
+pub returns-clause-plainly : goal.returns-clause-plainly
+returns-clause-plainly g c = settled_is_asked c.args.words.now (g.O.Oracle.state c.args.oracle.now) (g.O.Oracle.state c.settle.new.self) c.in_ok-settle.ensures.settles
+
+pub returns-then-gives_from-clause-plainly : goal.returns-then-gives_from-clause-plainly
+returns-then-gives_from-clause-plainly g c = settled_is_asked c.args.words.now (g.O.Oracle.state c.args.oracle.now) (g.O.Oracle.state c.settle.new.self) c.in_ok-settle.ensures.settles

@@ -34,3 +34,9 @@ returns-in_ok-certified-in-None-clause-tested g c =
     let now = g.O.Oracle.state c.settle_suite.new.oracle in
     let e = c.in_ok-certified-in-None.ensures in
     sure_of c.args.hypothesis.now c.args.model c.in_ok-certified-in-None.field-0 c.args.settings.suite c.args.settings.extra c.cache.result.now.kept now.kept c.requires.alphabets e.value c.cache.ensures.kept e.certified e.enough c.requires.canonical
+
+pub returns-in-Some-clause-plainly : goal.returns-in-Some-clause-plainly
+returns-in-Some-clause-plainly g c = rw c.in-Some.is at c.in_ok-found.ensures.plainly
+
+pub returns-in_ok-certified-in-None-clause-plainly : goal.returns-in_ok-certified-in-None-clause-plainly
+returns-in_ok-certified-in-None-clause-plainly g c = (c.in_ok-certified-in-None.ensures.value, rw c.in-None.is at c.in_ok-found.ensures.plainly)

@@ -7,6 +7,7 @@ use Rattle.lw_rounds.specs.bodies.Rounds.{StopsTest}
 use Rattle.lw_rounds.specs.declared.hypothesis.Tested.{Tested}
 use Rattle.lw_rounds.specs.declared.stops.LearnStop.{LearnStop}
 use Rattle.lw_rounds.proofs.HypothesisLemmas.{without_suite_stops, without_suite_leaves}
+use Rattle.lw_rounds.proofs.PlainLemmas.{told_by_suite}
 use Rattle.lw_rounds.proofs.hypothesis.test_with.Goals as goal
 
 pub returns-in-Err-clause-stops : goal.returns-in-Err-clause-stops
@@ -24,3 +25,8 @@ returns-in-Err-clause-leaves g c =
     let before = g.O.Oracle.state c.args.oracle.now in
     subst (λ (stop : LearnStop). Leaves before before (learn_stop {X = Tested} (Err stop))) (sym c.without_suite.ensures)
     (without_suite_leaves Tested before c.args.model c.in-Err.fault (leaves_nothing before c.requires.keeps c.requires.may))
+
+pub returns-in-Ok-clause-plainly : goal.returns-in-Ok-clause-plainly
+returns-in-Ok-clause-plainly g c =
+    told_by_suite c.args.hypothesis.now.rows c.args.settings.suite c.args.settings.extra c.args.model (g.S.Chunks.left c.in-Ok.suite) (g.O.Oracle.state c.args.oracle.now) (g.O.Oracle.state c.settle_and_certify.new.oracle)
+    (rw c.in-Ok.is at c.requires.suite) (rw c.in-Ok.is at c.requires.size) c.settle_and_certify.result c.settle_and_certify.ensures.plainly

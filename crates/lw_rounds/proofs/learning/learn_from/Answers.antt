@@ -11,6 +11,7 @@ use Rattle.lw_rounds.specs.declared.learner.Learner.{Learner}
 use Rattle.lw_rounds.specs.declared.stops.LearnStop.{LearnStop}
 use Rattle.lw_rounds.proofs.StopLemmas.{leaves_learn_grown}
 use Rattle.lw_rounds.proofs.RoundLemmas.{growth_as, learned_alike, ready_after, stops_alike, told_stops}
+use Rattle.lw_rounds.proofs.PlainLemmas.{learned_from_new}
 use Rattle.lw_rounds.proofs.learning.learn_from.Goals as goal
 
 module _ (l m n : Learner) (method : Method) (k : ℕ) (ks : List Answer) (alike : IsAlike l m) where
@@ -45,6 +46,8 @@ returns g c =
     let alike = c.in_ok-close.ensures.grows.alike in
     record {
       learned = learned_since l c.close.new.self c.rounds.new.learner c.args.settings.suite c.args.settings.extra ks alike c.rounds.result c.rounds.ensures.learned;
+      plainly = learned_from_new l c.close.new.self c.rounds.new.learner c.args.settings.suite c.args.settings.extra (g.O.Oracle.state c.args.oracle.now) (g.O.Oracle.state c.close.new.oracle) (g.O.Oracle.state c.rounds.new.oracle) c.rounds.ensures.leaves.gained
+          alike c.in_ok-close.ensures.plainly c.in_ok-close.ensures.leaves.same.exact c.rounds.ensures.leaves.at_end c.rounds.result c.rounds.ensures.plainly;
       stops = stops_since l c.close.new.self c.rounds.new.learner c.args.settings.suite c.args.settings.extra ks alike c.rounds.result c.rounds.ensures.stops;
       leaves = leaves_then (g.O.Oracle.state c.args.oracle.now) (g.O.Oracle.state c.close.new.oracle) (g.O.Oracle.state c.rounds.new.oracle) (learn_stop c.rounds.result) c.in_ok-close.ensures.leaves c.rounds.ensures.leaves;
       can = c.rounds.ensures.can;

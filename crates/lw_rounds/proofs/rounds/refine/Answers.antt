@@ -7,6 +7,7 @@ use Rattle.lw_rounds.proofs.LearnerLemmas.{access_leads, read_more, steps_are_re
 use Rattle.lw_rounds.proofs.RoundLemmas.{ready_more, ready_after, refined_goes}
 use Rattle.std.specs.Prelude.{⊤}
 use Rattle.lw_rounds.proofs.StopLemmas.{leaves_grown_on}
+use Rattle.lw_rounds.proofs.PlainLemmas.{refined_by_word}
 use Rattle.lw_rounds.proofs.rounds.refine.Goals as goal
 
 pub split-requires-clause-access : goal.split-requires-clause-access
@@ -50,3 +51,8 @@ pub returns-in_err-refine-clause-leaves : goal.returns-in_err-refine-clause-leav
 returns-in_err-refine-clause-leaves g c =
     leaves_grown_on ⊤ (g.O.Oracle.state c.args.oracle.now) (g.O.Oracle.state c.refine.new.oracle) c.in_err-refine.field-0.0 c.from_residual-in_err-refine.result
     (leaves_then (g.O.Oracle.state c.args.oracle.now) (g.O.Oracle.state c.split.new.oracle) (g.O.Oracle.state c.refine.new.oracle) _ c.in_ok-cut.ensures.leaves c.in_err-refine.ensures.leaves) (search rules)
+
+pub returns-clause-plainly : goal.returns-clause-plainly
+returns-clause-plainly g c =
+    refined_by_word c.args.hypothesis.now.rows c.args.word.now c.in_ok-cut.cut.suffix c.args.learner.now c.refine.new.self c.access.result.now (g.O.Oracle.state c.args.oracle.now) (g.O.Oracle.state c.split.new.oracle) (g.O.Oracle.state c.refine.new.oracle) c.in_ok-refine.ensures.leaves.gained
+    c.access.ensures.value c.in_ok-cut.ensures.plainly c.in_ok-refine.ensures.plainly c.in_ok-cut.ensures.leaves.same.exact c.in_ok-refine.ensures.leaves.at_end

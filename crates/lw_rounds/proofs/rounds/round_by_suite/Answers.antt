@@ -7,6 +7,7 @@ use Rattle.lw_rounds.specs.Stops.{of_growth}
 use Rattle.lw_rounds.specs.bodies.Rounds.{StopsFrom}
 use Rattle.lw_rounds.proofs.StopLemmas.{leaves_learn_grown}
 use Rattle.lw_rounds.proofs.RoundLemmas.{growth_as, few_tested, ready_more, is_learned, tested_stops, told_stops}
+use Rattle.lw_rounds.proofs.PlainLemmas.{goes_by_suite, ends_by_suite}
 use Rattle.lw_rounds.proofs.rounds.round_by_suite.Goals as goal
 
 pub refine-requires-clause-ready : goal.refine-requires-clause-ready
@@ -47,3 +48,19 @@ returns-in_err-word-clause-stops g c =
     let stop = c.in_err-word.field-0.0 in
     told_stops (StopsFrom l c.args.settings.extra ks) stop c.from_residual.result (search rules)
     (tested_stops h l c.args.settings.extra ks stop c.requires.inputs c.requires.outputs (few_tested l h.rows c.requires.ready.learner c.requires.machine) c.in_err-word.ensures.stops)
+
+pub returns-in_ok-refine-in-Differs-clause-plainly : goal.returns-in_ok-refine-in-Differs-clause-plainly
+returns-in_ok-refine-in-Differs-clause-plainly g c =
+    let o = g.O.Oracle.state c.args.oracle.now in
+    let b = g.O.Oracle.state c.test_by_suite.new.oracle in
+    let n = g.O.Oracle.state c.refine.new.oracle in
+    let done = c.in_ok-refine-in-Differs.ensures in
+    goes_by_suite c.args.hypothesis.now c.args.learner.now c.args.settings.suite c.args.settings.extra o b c.requires.ready c.requires.machine c.requires.inputs c.requires.gives c.in-Differs.word c.refine.new.learner n done.leaves.gained
+    (rw c.in-Differs.is at c.in_ok-word.ensures.plainly) c.in_ok-word.ensures.leaves.same.exact done.leaves.at_end done.plainly
+
+pub returns-in-Sure-clause-plainly : goal.returns-in-Sure-clause-plainly
+returns-in-Sure-clause-plainly g c =
+    let o = g.O.Oracle.state c.args.oracle.now in
+    let b = g.O.Oracle.state c.test_by_suite.new.oracle in
+    ends_by_suite c.args.hypothesis.now c.args.learner.now c.args.settings.suite c.args.settings.extra o b c.requires.ready c.requires.machine c.requires.inputs c.requires.gives c.in-Sure.model
+    (rw c.in-Sure.is at c.in_ok-word.ensures.plainly)

@@ -1,4 +1,4 @@
-use Rattle.std.proofs.Common.{List, None, Ok, ◌∙◌, sym, subst, rules}
+use Rattle.std.proofs.Common.{List, Some, None, Ok, IfOk, ◌∙◌, sym, subst, rules}
 use Rattle.std.specs.Prelude.{⊤}
 use Rattle.lw_words.specs.Word.{answers_of}
 use Rattle.lw_words.specs.declared.kept.KeptAnswer.{KeptAnswer}
@@ -14,6 +14,9 @@ use Rattle.lw_rounds.proofs.StopLemmas.{leaves_learn_grown}
 use Rattle.lw_rounds.proofs.ConformanceLemmas.{none_differs}
 use Rattle.lw_rounds.proofs.HypothesisLemmas.{kept_words}
 use Rattle.lw_rounds.proofs.RoundLemmas.{growth_as, ready_after, more_finals, told_stops}
+use Rattle.lw_rounds.specs.bodies.Plain.{RoundsAsPlain}
+use Rattle.lw_rounds.specs.declared.learner.Learner.{Learner}
+use Rattle.lw_rounds.proofs.PlainLemmas.{goes_by_known, replaced_goes}
 use Rattle.lw_rounds.proofs.rounds.round_with.Goals as goal
 
 pub against-requires : goal.against-requires
@@ -83,3 +86,27 @@ returns-in_err-refine-clause-leaves g c =
 pub returns-in_err-settle-clause-leaves : goal.returns-in_err-settle-clause-leaves
 returns-in_err-settle-clause-leaves g c =
     leaves_learn_grown Settled (g.O.Oracle.state c.args.oracle.now) (g.O.Oracle.state c.settle.new.oracle) c.in_err-settle.field-0.0 c.from_residual-in_err-settle.result c.in_err-settle.ensures.leaves (search rules)
+
+pub returns-in-Some-clause-plainly : goal.returns-in-Some-clause-plainly
+returns-in-Some-clause-plainly g c =
+    let o = g.O.Oracle.state c.args.oracle.now in
+    let n = g.O.Oracle.state c.refine.new.oracle in
+    let h = c.args.hypothesis.now.rows in
+    let done = c.in_ok-refine.ensures in
+    goes_by_known h c.in-Some.word c.args.learner.now c.refine.new.learner c.args.settings.suite c.args.settings.extra o n done.leaves.gained c.requires.ready c.requires.machine
+    (subst (λ (kept : List KeptAnswer). DiffersFirst h (answers_of kept) (Some c.in-Some.word)) c.cache.ensures.kept (rw c.in-Some.is at c.in_ok-word.ensures)) done.leaves.at_end done.plainly
+
+pub returns-in-Replaced-clause-plainly : goal.returns-in-Replaced-clause-plainly
+returns-in-Replaced-clause-plainly g c =
+    replaced_goes c.args.learner.now c.settle.new.self c.args.settings.suite c.args.settings.extra (g.O.Oracle.state c.args.oracle.now) (g.O.Oracle.state c.settle.new.oracle) c.in_ok-settle.ensures.grows.alike (rw c.in-Replaced.is at c.in_ok-settle.ensures.settles)
+
+pub returns-in-NoBlock-clause-plainly : goal.returns-in-NoBlock-clause-plainly
+returns-in-NoBlock-clause-plainly g c =
+    let o = g.O.Oracle.state c.args.oracle.now in
+    let b = g.O.Oracle.state c.settle.new.oracle in
+    let n = g.O.Oracle.state c.round_by_suite.new.oracle in
+    let suites = c.args.settings.suite in
+    let k = c.args.settings.extra in
+    let settled = rw c.in-NoBlock.is at c.in_ok-settle.ensures.settles in
+    subst (λ (l : Learner). IfOk c.round_by_suite.result (λ found. RoundsAsPlain l c.round_by_suite.new.learner suites k found o n)) settled.1
+    (subst (λ (p : OracleState). IfOk c.round_by_suite.result (λ found. RoundsAsPlain c.settle.new.self c.round_by_suite.new.learner suites k found p n)) (c.in_ok-settle.ensures.unasked c.in-NoBlock.is) c.round_by_suite.ensures.plainly)

@@ -4,6 +4,7 @@ use Rattle.lw_rounds.specs.Stops.{learn_stop}
 use Rattle.lw_workers.specs.Asking.{AnswersWords}
 use Rattle.lw_workers.proofs.MachineLemmas.{enough_as}
 use Rattle.lw_workers.proofs.AskingLemmas.{are_answered_more, when_ok}
+use Rattle.lw_workers.proofs.PlainLemmas.{learns_given}
 use Rattle.lw_workers.proofs.asking.learn_after.Goals as goal
 
 pub learn-requires-clause-nothing : goal.learn-requires-clause-nothing
@@ -26,3 +27,12 @@ returns-clause-enough g c =
     let between = g.O.Oracle.state c.settle_named.new.oracle in
     let now = g.O.Oracle.state c.learn.new.oracle in
     enough_as c.args.settings.suite between.inputs before.inputs c.args.settings.extra now.kept now.kept c.learn.result c.in_ok-settle_named.ensures.leaves.same.inputs refl c.learn.ensures.enough
+
+pub returns-clause-plainly : goal.returns-clause-plainly
+returns-clause-plainly g c =
+    let before = g.O.Oracle.state c.args.oracle.now in
+    let between = g.O.Oracle.state c.settle_named.new.oracle in
+    let now = g.O.Oracle.state c.learn.new.oracle in
+    let first = c.in_ok-settle_named.ensures in
+    learns_given c.args.settings.kind c.args.settings.suite before.inputs between.inputs c.args.settings.extra c.args.settings.max_states c.args.words.now before between now c.learn.ensures.leaves.gained first.leaves.same.inputs first.plainly first.leaves.same.exact
+    c.learn.ensures.leaves.at_end c.learn.result c.learn.ensures.plainly

@@ -9,6 +9,7 @@ use Rattle.lw_workers.specs.Machines.{KeepsRuns}
 use Rattle.lw_workers.proofs.InstanceLemmas.{member}
 use Rattle.lw_workers.proofs.MachineLemmas.{enough_as, has_ended, never_stopped}
 use Rattle.lw_workers.proofs.RunLemmas.{keeps_naming, keeps_prior}
+use Rattle.lw_workers.proofs.PlainLemmas.{runs_as}
 use Rattle.lw_workers.proofs.machine.learn_machine.Goals as goal
 
 pub returns-clause-learned : goal.returns-clause-learned
@@ -69,3 +70,12 @@ pub returns-clause-asked : goal.returns-clause-asked
 returns-clause-asked g c =
     subst (λ (kept : List KeptAnswer). OnOk c.learn_with-learned.result.learned (AnswersWords c.args.start.words kept)) (sym (c.into_kept-2.ensures ∙ c.into_parts-left.ensures.cache.0))
     (subst (λ (words : List (List ℕ)). OnOk c.learn_with-learned.result.learned (AnswersWords words c.learn_with-learned.result.pool.kept)) c.as_slice.ensures c.learn_with-learned.ensures.asked)
+
+pub returns-in-Err-clause-plainly : goal.returns-in-Err-clause-plainly
+returns-in-Err-clause-plainly g c = λ is_table by_w none m machine gives. tt
+
+pub returns-clause-plainly : goal.returns-clause-plainly
+returns-clause-plainly g c =
+    let pool = c.in-Ok.ensures.pool in
+    runs_as c.args.settings.kind c.args.settings.suite c.in-Ok.pool.inputs c.args.system.now.inputs c.args.settings.extra c.args.settings.max_states c.as_slice.result.now c.args.start.words c.learn_with-learned.result.learned c.in-Ok.pool.kept c.args.start.cache.kept
+    c.learn_with-learned.result.pool.kept c.into_kept-2.result.answers pool.inputs c.as_slice.ensures pool.kept (sym (c.into_kept-2.ensures ∙ c.into_parts-left.ensures.cache.0)) c.learn_with-learned.ensures.plainly

@@ -1,7 +1,7 @@
 use Rattle.std.proofs.Common.{◌≡◌, ◌<◌, ◌+◌, ◌-◌, ◌∷◌, [], ℕ, length, Some, subst, sym, ap, ◌∙◌, arith, length-append}
 use Rattle.lw_plain.specs.Table.{PlainTable, with_access_word, close, first_new}
-use Rattle.lw_plain_run.specs.bodies.Tables.{IsOver}
-use Rattle.lw_plain_run.proofs.TableLemmas.{new_is_word, over_access}
+use Rattle.lw_plain.specs.Over.{IsOver}
+use Rattle.lw_plain.proofs.OverLemmas.{new_is_word, over_access}
 use Rattle.lw_plain.proofs.LawLemmas.{closing_on}
 use Rattle.lw_plain_run.proofs.table.Table.close.Goals as goal
 

@@ -1,6 +1,6 @@
 use Rattle.std.proofs.Common.{◌≡◌, ◌-◌, length}
 use Rattle.lw_plain.specs.Table.{close}
-use Rattle.lw_plain_run.specs.bodies.Tables.{IsOver}
+use Rattle.lw_plain.specs.Over.{IsOver}
 use Rattle.lw_plain_run.proofs.table.Table.close.Given as goal
 
 abbrev pub invariant-loop-count : goal.invariant-loop-count

@@ -1,7 +1,7 @@
 use Rattle.std.proofs.Common.{subst, sym, List, ℕ}
 use Rattle.std.specs.List.{All}
 use Rattle.lw_words.specs.Word.{IsWord}
-use Rattle.lw_plain_run.proofs.TableLemmas.{rows_are_words}
+use Rattle.lw_plain.proofs.OverLemmas.{rows_are_words}
 use Rattle.lw_plain_run.proofs.table.Table.first_new.Goals as goal
 
 pub is_new-requires-clause-letters : goal.is_new-requires-clause-letters

@@ -1,13 +1,17 @@
 use Rattle.std.proofs.Common.{ap, rules, ◌≡◌, ℕ, ◌<◌, List, [], ◌∷◌, length, sym, ◌∙◌, subst}
 use Rattle.std.proofs.lemmas.List.{length-append}
 use Rattle.lw_words.specs.Word.{answers_of}
+use Rattle.lw_cache.specs.Settling.{OracleState}
 use Rattle.lw_cache.proofs.SettlingLemmas.{leaves_nothing, leaves_grown_own}
+use Rattle.lw_plain.specs.Turns.{AsksBatch}
 use Rattle.lw_table.specs.Grown.{HasGrown}
 use Rattle.lw_table.specs.Table.{TableState, home_at, IsTable, CellsAreRead}
 use Rattle.lw_table.specs.bodies.Growing.{AreFullBelow}
+use Rattle.lw_table.specs.bodies.Plain.{open_behind}
 use Rattle.lw_table.proofs.AccessLemmas.{row_stays_at, access_read, access_grown, homes_before, has_state}
 use Rattle.lw_table.proofs.IndexLemmas.{length-rows_by}
 use Rattle.lw_table.proofs.GrownLemmas.{not_grown, grown_then, crowd_of, tells_crowd}
+use Rattle.lw_table.proofs.OpenLemmas.{open_of_new}
 use Rattle.lw_table.proofs.table.ObservationTable.add_state.Goals as goal
 
 pub returns-in_err-with_row_word-clause-grown : goal.returns-in_err-with_row_word-clause-grown
@@ -97,6 +101,10 @@ returns-in_err-fill_new-clause-refinements g c = ap (λ (u : TableState). u.refi
 pub returns : goal.returns
 returns g c =
     let t : TableState = c.args.self.now in
+    let o : OracleState = g.O.Oracle.state c.args.oracle.now in
+    let n : OracleState = g.O.Oracle.state c.fill_new.new.oracle in
+    let rows : c.len-first.result ≡ length c.self.inside.rows.items = search rules in
+    let first : c.len-first.result ≡ length t.cells = subst (λ (u : TableState). c.len-first.result ≡ length u.cells) c.self.view_is (rows ∙ sym (length-rows_by c.self.inside.classes c.self.inside.rows.items)) in
     let now = c.fill_new.new.self in
     let ks = answers_of (g.O.Oracle.state c.args.oracle.now).kept in
     let table : IsTable t = subst (λ (u : TableState). IsTable u) c.self.view_is c.self.invariant.0 in
@@ -112,6 +120,13 @@ returns g c =
       refinements = ap (λ (u : TableState). u.refinements) cells ∙ ap (λ (u : TableState). u.refinements) added.is;
       crowd = λ words told. cc;
       asks = c.fill_new.ensures.asks;
+      plainly = record {
+        word = added.word;
+        of_row = added.of_row;
+        access = ap (λ (u : TableState). u.access) cells ∙ ap (λ (u : TableState). u.access) added.is;
+        asks = subst (λ (ws : List (List ℕ)). AsksBatch ws o n) (open_of_new t.inputs t.access t.suffixes added.word t.cells c.len-first.result first table.rows)
+            (subst (λ (u : TableState). AsksBatch (open_behind u c.len-first.result) o n) added.is c.in_ok-fill_new.ensures.plainly);
+      };
       leaves = c.in_ok-fill_new.ensures.leaves;
       can = c.in_ok-fill_new.ensures.can;
     }

@@ -3,6 +3,7 @@ use Rattle.lw_words.specs.Word.{answers_of}
 use Rattle.lw_cache.specs.Settling.{GainsOnly, Leaves}
 use Rattle.lw_table.specs.Grown.{HasGrown, IsCellWordOf}
 use Rattle.lw_table.specs.bodies.Growing.{AreFull, HaveStates}
+use Rattle.lw_table.specs.bodies.Plain.{ClosesOn}
 use Rattle.lw_table.proofs.table.ObservationTable.close.Given as goal
 
 abbrev pub invariant-loop-row : goal.invariant-loop-row
@@ -14,6 +15,7 @@ invariant-loop-row g l = record {
   suffixes : l.self.suffixes ≡ l.fn.self.suffixes;
   refinements : l.self.refinements ≡ l.fn.self.refinements;
   asks : GainsOnly (IsCellWordOf l.self) (g.O.Oracle.state l.fn.oracle).kept (g.O.Oracle.state l.oracle).kept;
+  plainly : ClosesOn l.fn.self l.self (g.O.Oracle.state l.fn.oracle) (g.O.Oracle.state l.oracle);
   leaves : Leaves (g.O.Oracle.state l.fn.oracle) (g.O.Oracle.state l.oracle) None;
   can : g.O.Oracle.can_settle l.oracle;
 }

@@ -3,15 +3,19 @@ use Rattle.std.specs.HashMap.{get}
 use Rattle.std.specs.List.{All}
 use Rattle.lw_words.specs.Word.{answers_of}
 use Rattle.lw_cache.specs.Settling.{OracleState}
+use Rattle.lw_plain.specs.Turns.{AsksBatch}
 use Rattle.lw_table.specs.Grown.{HasGrown}
+use Rattle.lw_table.specs.Plain.{open_words}
 use Rattle.lw_table.specs.Table.{TableState, IsTable, CellsAreRead}
 use Rattle.lw_table.specs.bodies.Filling.{GoOn}
 use Rattle.lw_table.specs.bodies.Numbered.{AreNumbered}
+use Rattle.lw_table.specs.bodies.Plain.{open_from}
 use Rattle.lw_table.specs.bodies.Rows.{class_at, table_of}
 use Rattle.lw_table.specs.declared.rows.Row.{Row}
 use Rattle.lw_table.proofs.CellLemmas.{cells_more, kept_words}
 use Rattle.lw_table.proofs.GrownLemmas.{not_grown}
 use Rattle.lw_table.proofs.IndexLemmas.{few_cells, more_classes, same_table, replaced_index, replaced_table, replaced_full, replaced_homes, replaced_grown}
+use Rattle.lw_table.proofs.OpenLemmas.{counts_are}
 use Rattle.lw_table.proofs.table.ObservationTable.fill_all.Goals as goal
 
 pub answered-requires-clause-few : goal.answered-requires-clause-few
@@ -157,3 +161,14 @@ returns-clause-full g c =
     let le : 0 ≤ length s.rows.items = omega (arith, all) in
     let full = λ (j : ℕ) (lt : j < 0). absurd (omega arith) in
     replaced_full ks s.inputs s.outputs s.most s.refinements s.access s.suffixes s.classes more.0 now s.rows.items filled s.homes.items (get nat_eq s.states) (get nat_eq s.states) 0 c.self.invariant.0 c.self.invariant.1 le full more.1 c.answered.ensures.differ all on words.0 words.1
+
+pub returns-clause-plainly : goal.returns-clause-plainly
+returns-clause-plainly g c =
+    let s = c.self.inside in
+    let o : OracleState = g.O.Oracle.state c.args.oracle.now in
+    let n : OracleState = g.O.Oracle.state c.answered.new.oracle in
+    let t : TableState = table_of s.inputs s.outputs s.most s.access s.suffixes s.classes s.rows.items s.homes.items s.refinements in
+    let rows : map (λ (r : Row). r.cells) c.as_slice-old.result.now ≡ map (λ (row : List (List ℕ)). length row) t.cells =
+    ap (λ (l : List Row). map (λ (r : Row). r.cells) l) c.as_slice-old.ensures.value ∙ counts_are s.classes s.rows.items c.self.invariant.1.counts in
+    let batch : open_from s.inputs s.access s.suffixes (map (λ (r : Row). r.cells) c.as_slice-old.result.now) 0 ≡ open_words t = ap (λ (ns : List ℕ). open_from s.inputs s.access s.suffixes ns 0) rows in
+    subst (λ (u : TableState). AsksBatch (open_words u) o n) c.self.view_is (subst (λ (ws : List (List ℕ)). AsksBatch ws o n) batch c.in_ok-rows.ensures.plainly)

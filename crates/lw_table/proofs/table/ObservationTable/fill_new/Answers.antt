@@ -1,18 +1,21 @@
-use Rattle.std.proofs.Common.{◌≡◌, ℕ, ◌+◌, ◌<◌, ◌≤◌, List, ◌++◌, length, take, get_or, nat_eq, ap, sym, ◌∙◌, subst, arith}
+use Rattle.std.proofs.Common.{◌≡◌, ℕ, ◌+◌, ◌<◌, ◌≤◌, List, ◌++◌, length, map, take, get_or, nat_eq, ap, sym, ◌∙◌, subst, arith}
 use Rattle.std.specs.HashMap.{get}
 use Rattle.std.specs.List.{All}
 use Rattle.lw_words.specs.Word.{answers_of}
 use Rattle.lw_cache.specs.Settling.{OracleState}
+use Rattle.lw_plain.specs.Turns.{AsksBatch}
 use Rattle.lw_table.specs.Grown.{HasGrown}
 use Rattle.lw_table.specs.Table.{TableState, IsTable, CellsAreRead}
 use Rattle.lw_table.specs.bodies.Classes.{row_of}
 use Rattle.lw_table.specs.bodies.Filling.{GoOn}
 use Rattle.lw_table.specs.bodies.Growing.{AreFull}
+use Rattle.lw_table.specs.bodies.Plain.{open_from, open_behind}
 use Rattle.lw_table.specs.bodies.Rows.{table_of, AreIndexed}
 use Rattle.lw_table.specs.declared.rows.Row.{Row}
 use Rattle.lw_table.proofs.CellLemmas.{cells_more, kept_words}
 use Rattle.lw_table.proofs.GrownLemmas.{not_grown}
 use Rattle.lw_table.proofs.IndexLemmas.{few_cells, more_classes, same_table, replaced_index, replaced_states, replaced_table, replaced_full, replaced_grown}
+use Rattle.lw_table.proofs.OpenLemmas.{counts_are}
 use Rattle.lw_table.proofs.table.ObservationTable.fill_new.Goals as goal
 
 pub answered-requires-clause-few : goal.answered-requires-clause-few
@@ -115,3 +118,14 @@ returns-clause-full g c =
     let is : c.replace.new.rows.items ≡ take c.args.first s.rows.items ++ filled = c.replace.ensures ∙ ap (λ (l : List Row). take c.args.first s.rows.items ++ l) c.deref.ensures.value in
     subst (λ (l : List Row). AreFull (table_of s.inputs s.outputs s.most s.access s.suffixes now l s.homes.items s.refinements)) (sym is)
     (replaced_full ks s.inputs s.outputs s.most s.refinements s.access s.suffixes s.classes more.0 now s.rows.items filled s.homes.items (get nat_eq s.states) (get nat_eq s.states) c.args.first c.self.invariant.0 c.self.invariant.1 le full more.1 c.answered.ensures.differ all on words.0 words.1)
+
+pub returns-clause-plainly : goal.returns-clause-plainly
+returns-clause-plainly g c =
+    let s = c.self.inside in
+    let o : OracleState = g.O.Oracle.state c.args.oracle.now in
+    let n : OracleState = g.O.Oracle.state c.answered.new.oracle in
+    let t : TableState = table_of s.inputs s.outputs s.most s.access s.suffixes s.classes s.rows.items s.homes.items s.refinements in
+    let rows : map (λ (r : Row). r.cells) c.as_slice-old.result.now ≡ map (λ (row : List (List ℕ)). length row) t.cells =
+    ap (λ (l : List Row). map (λ (r : Row). r.cells) l) c.as_slice-old.ensures.value ∙ counts_are s.classes s.rows.items c.self.invariant.1.counts in
+    let batch : open_from s.inputs s.access s.suffixes (map (λ (r : Row). r.cells) c.as_slice-old.result.now) c.args.first ≡ open_behind t c.args.first = ap (λ (ns : List ℕ). open_from s.inputs s.access s.suffixes ns c.args.first) rows in
+    subst (λ (u : TableState). AsksBatch (open_behind u c.args.first) o n) c.self.view_is (subst (λ (ws : List (List ℕ)). AsksBatch ws o n) batch c.in_ok-filled.ensures.plainly)

@@ -4,11 +4,13 @@ use Rattle.lw_cache.specs.declared.stops.AskStop.TheVariants.{NoMemory}
 use Rattle.lw_cache.specs.declared.stops.GrowStop.TheVariants.{Ask}
 use Rattle.lw_cache.proofs.SettlingLemmas.{kept_are_answers, leaves_nothing, leaves_grown_own}
 use Rattle.lw_table.specs.Grown.{HasClosed, HasRefined}
+use Rattle.lw_table.specs.Plain.{ClosesPlainly}
 use Rattle.lw_table.specs.Table.{TableState, CellsAreRead}
 use Rattle.lw_table.specs.bodies.Growing.{with_suffix}
 use Rattle.lw_table.proofs.GrownLemmas.{not_refined}
 use Rattle.lw_table.proofs.RefineLemmas.{split_by, room_to_count, has_refined, not_all_refined, handed_refined}
 use Rattle.lw_table.proofs.SuffixLemmas.{suffix_read, suffix_grown}
+use Rattle.lw_table.proofs.PlainCloseLemmas.{refines_plainly}
 use Rattle.lw_table.proofs.table.ObservationTable.refine.Goals as goal
 
 pub returns-in_err-add_suffix-clause-refines : goal.returns-in_err-add_suffix-clause-refines
@@ -65,3 +67,12 @@ returns-clause-refines g c =
     let are : AreAnswers t.inputs (answers_of n.kept) = kept_are_answers n t.inputs (c.requires.inputs ∙ sym leaves.same.inputs) leaves.keeps in
     let more = split_by o.kept leaves.gained n.kept t c.close.new.self c.args.cut.now leaves.at_end c.add_suffix.ensures.was are c.requires.closed c.requires.cut done in
     has_refined (answers_of o.kept) (answers_of n.kept) suffix t c.close.new.self c.count_refinement.new.self (suffix_grown t suffix c.add_suffix.ensures.was (answers_of o.kept) is_cut.suffix is_cut.some c.requires.read) done more c.count_refinement.ensures.value c.count_refinement.ensures.table
+
+pub returns-clause-plainly : goal.returns-clause-plainly
+returns-clause-plainly g c =
+    let t : TableState = c.args.self.now in
+    let o = g.O.Oracle.state c.args.oracle.now in
+    let n = g.O.Oracle.state c.close.new.oracle in
+    let suffix = c.args.cut.now.suffix in
+    let done : ClosesPlainly (with_suffix t suffix) c.close.new.self o n = subst (λ (u : TableState). ClosesPlainly u c.close.new.self o n) c.in_ok-add_suffix.ensures.ok c.in_ok-close.ensures.plainly in
+    refines_plainly t c.close.new.self c.count_refinement.new.self suffix o n c.add_suffix.ensures.was c.requires.closed done c.count_refinement.ensures.value

@@ -5,12 +5,12 @@ use Rattle.std.proofs.lemmas.List.{length-map, get_or-map}
 use Rattle.std.proofs.lemmas.List.Elements.{All-nil, All-cons, All-tail, All-map, All-contains, Contains-append_left, Contains-append_right, Contains-get_or}
 use Rattle.std.proofs.lemmas.List.FromFn.{length-range_with_len}
 use Rattle.lw_words.specs.Word.{IsWord}
-use Rattle.lw_mealy.specs.Machine.{Row, Rows, IsWithinLimits, mealy_of, after}
+use Rattle.lw_mealy.specs.Machine.{Row, Rows, IsMachine, IsWithinLimits, mealy_of, after}
 use Rattle.lw_mealy.proofs.RowLemmas.{output_below}
 use Rattle.lw_mealy.proofs.WordLemmas.{after_below}
 use Rattle.lw_plain.specs.Table.{PlainTable, extensions, row_words, has_same_row, is_new, first_new, row_state, transition_of, transitions_of, machine_of}
-use Rattle.lw_plain_run.specs.bodies.Tables.{IsOver}
-use Rattle.lw_plain_run.proofs.TableLemmas.{letters_below}
+use Rattle.lw_plain.specs.Over.{IsOver}
+use Rattle.lw_plain.proofs.OverLemmas.{letters_below}
 
 -- nothing is found where nothing passes
 none_by : {X : Type 0} (p : X → Bool) (x : X) (xs : List X) (here : Bool) → p x ≡ here → (find p xs ≡ None → All (λ y. p y ≡ false) xs) → cond here (Some x) (find p xs) ≡ None → All (λ y. p y ≡ false) (x ∷ xs)
@@ -98,3 +98,21 @@ pub within_as : (a b c d : ℕ) (m n : Rows) → c ≡ a → d ≡ b → n ≡ m
 within_as a b c d m n inputs outputs rows within =
     let same : mealy_of a b m ≡ mealy_of c d n = cc in
     subst IsWithinLimits same within
+
+-- what the machine of a closed table is, whatever the outputs are
+pub machine_is : (a : ℕ) (m : Rows) (t : PlainTable) → IsOver a t → first_new a m t ≡ None → IsMachine a (machine_of a m t)
+machine_is a m t over closed =
+    let old : All (λ r. is_new m t r ≡ false) (row_words a t.access) = none_passes (is_new m t) (row_words a t.access) closed in
+    let parts = each_part (λ (r : List ℕ). is_new m t r ≡ false) (extensions a) t.access (All-tail (λ r. is_new m t r ≡ false) [] (flat_map (extensions a) t.access) old) in
+    let long : length (machine_of a m t) ≡ length t.access = length-map t.access (transitions_of a m t) in
+    let letters : List ℕ = range_with_len 0 a in
+    record {
+      some_state = (let some = over.some in omega arith);
+      complete = subst (λ (n : ℕ). All (λ (r : Row). (length r ≡ a) × All (λ (c : ℕ × ℕ). c.0 < n) r) (machine_of a m t)) (sym long)
+          (All-map (λ (r : Row). (length r ≡ a) × All (λ (c : ℕ × ℕ). c.0 < length t.access) r) (transitions_of a m t) t.access (λ k d lt.
+          let u = get_or t.access k d in
+          let olds = each_value (λ (r : List ℕ). is_new m t r ≡ false) (λ (x : ℕ). u ++ x ∷ []) letters [] (parts k d lt) in (
+            length-map letters (transition_of m t u) ∙ length-range_with_len 0 a,
+            All-map (λ (c : ℕ × ℕ). c.0 < length t.access) (transition_of m t u) letters (λ j e le. target_within a m t (u ++ get_or letters j e ∷ []) (olds j e le)),
+          )));
+    }

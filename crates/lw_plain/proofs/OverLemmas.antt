@@ -8,10 +8,9 @@ use Rattle.std.proofs.lemmas.Grind.{flat_map-append}
 use Rattle.std.proofs.lemmas.List.{flat_map_more}
 use Rattle.lw_mealy.specs.Machine.{Rows, after}
 use Rattle.lw_cache.specs.Cut.{word_at}
-use Rattle.lw_cex.specs.Probe.{probe}
-use Rattle.lw_plain.specs.Table.{PlainTable, Search, extensions, row_words, row_cells, cell_words, is_new, first_new, first_table, unless_empty, with_access_word, with_suffix, with_batches, probe_batch, split_by}
+use Rattle.lw_plain.specs.Table.{PlainTable, Search, extensions, row_words, row_cells, cell_words, is_new, first_new, first_table, unless_empty, with_access_word, with_suffix, with_batches, probe, probe_batch, split_by}
 use Rattle.lw_plain.specs.Rounds.{asked_words}
-use Rattle.lw_plain_run.specs.bodies.Tables.{IsOver}
+use Rattle.lw_plain.specs.Over.{IsOver}
 
 pub letters_below : (a : ℕ) → All (λ x. x < a) (range_with_len 0 a)
 letters_below a = All-from_get_or (λ x. x < a) (range_with_len 0 a) 0 (λ i lt.
