@@ -11,8 +11,6 @@ mod rows;
 mod run;
 mod suite;
 mod table;
-#[cfg(test)]
-mod tests;
 
 pub use batches::Batches;
 pub use learning::plain;

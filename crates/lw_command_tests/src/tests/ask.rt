@@ -1,8 +1,8 @@
 //! The rows worked by hand, over files, children and streams in memory.
 use crate::tests::memory::{files, sink, spawner, string};
+use crate::tests::status_and_kept;
 use lw_ask::{AskArguments, ask};
 use lw_outside::{MemoryFiles, MemorySink, MemorySpawner};
-use lw_report::End;
 use lw_system::{Goal, Source};
 use std::alloc::Global;
 use std::process::Abort;
@@ -318,22 +318,22 @@ fn arguments(rt: &impl Abort, alloc: Global, case: &Case) -> AskArguments {
     AskArguments::new(Goal::Machine, case.source, string(rt, alloc, "f"), words)
 }
 
-/// The outcome of a call.
-fn end(alloc: Global, arguments: &AskArguments, outside: &mut Outside) -> End {
-    ask(
+/// The exit status of a call, and how many answers are recorded.
+fn end(alloc: Global, arguments: &AskArguments, outside: &mut Outside) -> (u8, usize) {
+    let end = ask(
         alloc,
         arguments,
         &mut outside.files,
         &mut outside.spawner,
         &mut outside.out,
         &mut outside.err,
-    )
+    );
+    status_and_kept(end)
 }
 
 /// Whether a call of the case ends as it says.
-fn ends_so(case: &Case, end: &End, outside: &Outside) -> bool {
-    end.status == case.status
-        && end.kept.len() == case.kept
+fn ends_so(case: &Case, end: (u8, usize), outside: &Outside) -> bool {
+    end == (case.status, case.kept)
         && outside.spawner.retired().len() == case.retired
         && outside.out.taken() == case.out.as_bytes()
         && outside.err.taken() == case.err.as_bytes()
@@ -343,7 +343,7 @@ fn asks(rt: &impl Abort, alloc: Global, case: &Case) -> bool {
     let arguments = arguments(rt, alloc, case);
     let mut outside = prepare(rt, alloc, case);
     let end = end(alloc, &arguments, &mut outside);
-    ends_so(case, &end, &outside)
+    ends_so(case, end, &outside)
 }
 
 #[test]

@@ -1,5 +1,6 @@
 //! The rows worked by hand, over files and streams in memory.
 use crate::tests::memory::{files, sink, string};
+use crate::tests::status_of;
 use lw_check::{CheckArguments, check, decision_exists, decision_is_unique};
 use lw_chunks::Method;
 use lw_outside::{MemoryFiles, MemorySink};
@@ -90,14 +91,14 @@ fn arguments(rt: &impl Abort, alloc: Global, extra: u8) -> CheckArguments {
 
 /// The exit status of a call: the clauses of `check` would weigh down each proof that calls it.
 fn status(alloc: Global, arguments: &CheckArguments, outside: &mut Outside) -> u8 {
-    check(
+    let end = check(
         alloc,
         arguments,
         &mut outside.files,
         &mut outside.out,
         &mut outside.err,
-    )
-    .status
+    );
+    status_of(end)
 }
 
 /// Checks what a call wrote to the streams.

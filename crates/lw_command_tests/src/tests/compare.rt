@@ -1,5 +1,6 @@
 //! Models by hand: the rows of the command over files and streams in memory, and the walk beside a plain search.
 use crate::tests::memory::{files, sink};
+use crate::tests::status_of;
 use lw_compare::{compare, comparison_is_unique};
 use lw_outside::{MemoryFiles, MemorySink};
 use std::alloc::Global;
@@ -209,15 +210,15 @@ fn prepare(rt: &impl Abort, alloc: Global, case: &Case) -> Outside {
 
 /// The exit status of a call.
 fn status(alloc: Global, outside: &mut Outside) -> u8 {
-    compare(
+    let end = compare(
         alloc,
         "m",
         "n",
         &mut outside.files,
         &mut outside.out,
         &mut outside.err,
-    )
-    .status
+    );
+    status_of(end)
 }
 
 /// Whether the call ends as the case says.

@@ -1,6 +1,7 @@
 //! What no clause says: that the calls succeed.
 ghost use Rattle.std.specs.Prelude.{◌≤◌};
 
+use crate::tests::let_go;
 use crate::tests::memory::string;
 use lw_chunks::Method;
 use lw_learn::{LearnArguments, LearnFiles, bad_is_refused, learn, told_is_learned};
@@ -162,7 +163,9 @@ fn call<R: Threads + Wait + Sync + Drop>(
     outside: &mut Outside,
 ) -> Seen {
     let end = end(rt, alloc, arguments, outside);
-    look(&end)
+    let seen = look(&end);
+    let_go(end);
+    seen
 }
 
 /// Whether a file has these bytes, or isn't there where there are none.
@@ -248,40 +251,60 @@ fn laws_have_no_code(_: HostRuntime) {
     bad_is_refused();
 }
 
+/// Checks the end of a child that is learned.
+fn check_learned(rt: &impl Abort, end: Seen, outside: &Outside) {
+    assert!(rt; end.came == Came::Learned && end.has_outputs && end.kept == 1);
+    assert!(rt; outside.spawner.retired().len() == 1);
+    let model = "{\"inputs\":[\"t\"],\"outputs\":[\"z\"],\"states\":[[[0,\"z\"]]]}\n";
+    check_text(rt, &outside.out, model);
+}
+
 #[test]
 fn a_child_is_learned(rt: HostRuntime) {
     let mut outside = with_child(&rt, rt.alloc(), "ready\nout z\nout z\n");
     let end = told(rt, rt.alloc(), &mut outside);
-    assert!(rt; end.came == Came::Learned && end.has_outputs && end.kept == 1);
+    check_learned(&rt, end, &outside);
+}
+
+/// Checks the end of a child that ends early.
+fn check_early(rt: &impl Abort, end: Seen, outside: &Outside) {
+    assert!(rt; end.came == Came::Gone && !end.has_model && !end.has_outputs);
     assert!(rt; outside.spawner.retired().len() == 1);
-    let model = "{\"inputs\":[\"t\"],\"outputs\":[\"z\"],\"states\":[[[0,\"z\"]]]}\n";
-    check_text(&rt, &outside.out, model);
+    check_text(rt, &outside.err, "system ended: instance 0\n");
 }
 
 #[test]
 fn a_child_ends_early(rt: HostRuntime) {
     let mut outside = with_child(&rt, rt.alloc(), "ready\nout z\n");
     let end = told(rt, rt.alloc(), &mut outside);
-    assert!(rt; end.came == Came::Gone && !end.has_model && !end.has_outputs);
-    assert!(rt; outside.spawner.retired().len() == 1);
-    check_text(&rt, &outside.err, "system ended: instance 0\n");
+    check_early(&rt, end, &outside);
+}
+
+/// Checks the end at a limit of states.
+fn check_limit(rt: &impl Abort, end: Seen, outside: &Outside) {
+    assert!(rt; end.came == Came::TooManyStates && !end.has_model && !end.has_learner);
+    let lines = "too many states: 2 words are pairwise apart\n\"\"\n\"t\"\n";
+    check_text(rt, &outside.err, lines);
+    check_text(rt, &outside.out, "");
 }
 
 #[test]
 fn a_limit_of_states(rt: HostRuntime) {
     let mut outside = with_table(&rt, rt.alloc());
     let end = limited(rt, rt.alloc(), 1, &mut outside);
-    assert!(rt; end.came == Came::TooManyStates && !end.has_model && !end.has_learner);
-    let lines = "too many states: 2 words are pairwise apart\n\"\"\n\"t\"\n";
-    check_text(&rt, &outside.err, lines);
-    check_text(&rt, &outside.out, "");
+    check_limit(&rt, end, &outside);
+}
+
+/// Checks the end with a model and its table.
+fn check_model(rt: &impl Abort, end: Seen, outside: &Outside) {
+    assert!(rt; end.came == Came::Learned && end.has_model && end.has_table && end.kept == 3);
+    let line = "learned: states 2, refinements 0, extra 1, answers 3\n";
+    check_text(rt, &outside.err, line);
 }
 
 #[test]
 fn a_model_with_its_table(rt: HostRuntime) {
     let mut outside = with_table(&rt, rt.alloc());
     let end = limited(rt, rt.alloc(), 2, &mut outside);
-    assert!(rt; end.came == Came::Learned && end.has_model && end.has_table && end.kept == 3);
-    let line = "learned: states 2, refinements 0, extra 1, answers 3\n";
-    check_text(&rt, &outside.err, line);
+    check_model(&rt, end, &outside);
 }

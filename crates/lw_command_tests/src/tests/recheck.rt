@@ -1,8 +1,8 @@
 //! The rows worked by hand, over files, children and streams in memory.
 use crate::tests::memory::{files, sink, spawner, string};
+use crate::tests::status_and_kept;
 use lw_outside::{MemoryFiles, MemorySink, MemorySpawner};
 use lw_recheck::{RecheckArguments, recheck};
-use lw_report::End;
 use std::alloc::Global;
 use std::process::Abort;
 
@@ -254,22 +254,22 @@ fn arguments(rt: &impl Abort, alloc: Global) -> RecheckArguments {
     RecheckArguments::new(string(rt, alloc, "s"), string(rt, alloc, "a"))
 }
 
-/// The outcome of a call.
-fn end(alloc: Global, arguments: &RecheckArguments, outside: &mut Outside) -> End {
-    recheck(
+/// The exit status of a call, and how many answers are recorded.
+fn end(alloc: Global, arguments: &RecheckArguments, outside: &mut Outside) -> (u8, usize) {
+    let end = recheck(
         alloc,
         arguments,
         &mut outside.files,
         &mut outside.spawner,
         &mut outside.out,
         &mut outside.err,
-    )
+    );
+    status_and_kept(end)
 }
 
 /// Whether a call of the case ends as it says.
-fn ends_so(case: &Case, end: &End, outside: &Outside) -> bool {
-    end.status == case.status
-        && end.kept.len() == case.kept
+fn ends_so(case: &Case, end: (u8, usize), outside: &Outside) -> bool {
+    end == (case.status, case.kept)
         && outside.spawner.retired().len() == case.retired
         && outside.out.taken() == case.out.as_bytes()
         && outside.err.taken() == case.err.as_bytes()
@@ -279,7 +279,7 @@ fn comes_so(rt: &impl Abort, alloc: Global, case: &Case) -> bool {
     let arguments = arguments(rt, alloc);
     let mut outside = prepare(rt, alloc, case);
     let end = end(alloc, &arguments, &mut outside);
-    ends_so(case, &end, &outside)
+    ends_so(case, end, &outside)
 }
 
 #[test]

@@ -81,14 +81,25 @@ fn arguments(rt: &impl Abort, alloc: Global, row: &Row) -> LearnArguments
     )
 }
 
+/// Whether the line with this number was put, and is this one.
+fn is_put(log: &MemoryLog, number: usize, wanted: &str) -> bool {
+    match log.lines().get(number) {
+        Some(line) => line.as_slice() == wanted.as_bytes(),
+        None => false,
+    }
+}
+
 /// Whether the log has these lines, each put by itself.
 fn has_lines(log: &MemoryLog, lines: &[&str]) -> bool {
-    log.lines().len() == lines.len()
-        && log
-            .lines()
-            .iter()
-            .zip(lines.iter())
-            .all(|(line, wanted)| line.as_slice() == wanted.as_bytes())
+    if log.lines().len() != lines.len() {
+        return false;
+    }
+    for number in 0..lines.len() {
+        if !is_put(log, number, lines[number]) {
+            return false;
+        }
+    }
+    true
 }
 
 fn log_of(alloc: Global, row: &Row) -> MemoryLog {

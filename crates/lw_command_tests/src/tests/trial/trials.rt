@@ -1,4 +1,5 @@
 //! Trials worked by hand, streams that fail, and trials of several instances.
+use crate::tests::let_go;
 use crate::tests::memory::sink;
 use lw_chunks::Method;
 use lw_outside::MemorySink;
@@ -79,7 +80,9 @@ fn is_ended_so<R: Abort + Threads + Wait + Sync + Copy + Drop>(
 ) -> bool {
     let arguments = arguments(&rt, case.states, case.inputs, 0, 1, Kind::Table);
     let end = end(rt, alloc, &arguments, out, err);
-    ends_so(&end, case)
+    let right = ends_so(&end, case);
+    let_go(end);
+    right
 }
 
 /// Whether a trial by seed 0 comes out so.
@@ -149,7 +152,9 @@ fn is_shared_trial<R: Abort + Threads + Wait + Sync + Copy + Drop>(
 ) -> bool {
     let arguments = arguments(&rt, 20, 4, 7, 8, Kind::Table);
     let end = end(rt, alloc, &arguments, out, err);
-    is_shared(&end.kept)
+    let right = is_shared(&end.kept);
+    let_go(end);
+    right
 }
 
 /// Whether one of so many trials had the answers of two instances and more.
@@ -183,7 +188,9 @@ fn finds<R: Abort + Threads + Wait + Sync + Copy + Drop>(
     let arguments = arguments(&rt, 20, 4, 7, workers, Kind::Table);
     let mut err = sink(&rt, alloc, &[]);
     let end = end(rt, alloc, &arguments, out, &mut err);
-    is_found(&end)
+    let right = is_found(&end);
+    let_go(end);
+    right
 }
 
 /// Whether an end tells that the machine was found.
@@ -214,6 +221,14 @@ fn the_same_text_of_any_number_of_instances(rt: HostRuntime) {
     assert!(rt; is_told(rt, rt.alloc(), 8, one.taken()));
 }
 
+/// What an end tells of a trial.
+fn tried(rt: &impl Abort, end: &End) -> Tried {
+    match &end.outcome {
+        Outcome::Trial(tried) => *tried,
+        _ => rt.panic("no trial was told"),
+    }
+}
+
 /// What a trial of 20 states and 2 inputs by seed 1 tells with a learner of this kind.
 fn tried_by<R: Abort + Threads + Wait + Sync + Copy + Drop>(
     rt: R,
@@ -224,10 +239,9 @@ fn tried_by<R: Abort + Threads + Wait + Sync + Copy + Drop>(
     let mut out = sink(&rt, alloc, &[]);
     let mut err = sink(&rt, alloc, &[]);
     let end = end(rt, alloc, &arguments, &mut out, &mut err);
-    match &end.outcome {
-        Outcome::Trial(tried) => *tried,
-        _ => rt.panic("no trial was told"),
-    }
+    let tried = tried(&rt, &end);
+    let_go(end);
+    tried
 }
 
 #[test]

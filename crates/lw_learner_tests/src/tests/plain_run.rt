@@ -3,8 +3,8 @@ ghost use Rattle.std.specs.Prelude.{◌≡◌, ◌≤◌};
 ghost use Rattle.std.specs.List.{All};
 ghost use Rattle.lw_words.specs.Word.{IsWord};
 
-use crate::{Batches, PlainRun, plain};
 use lw_mealy::Mealy;
+use lw_plain_run::{Batches, PlainRun, plain};
 use lw_words::{Word, Words};
 use std::alloc::Global;
 use std::process::Abort;
