@@ -259,6 +259,9 @@ module _ (a : LearnValues) (before now : WorldState) (end : End) (run : IsLearnR
         task = task_of a before now end run.told r;
         keeps = keeps_system a r.system r.prior before.spawner now.spawner r.learned.learned end.kept.answers r.learned.naming.names end.outputs (end_named (declared_of r.system) end.kept.answers r.learned.naming end.outputs r.learned.told.told.outputs) r.learned.found;
         letters = if_some _ (λ h. h.inputs ≡ length (letters_of r.system)) end.model (λ h has. has.certified.inputs) r.learned.model;
+        words = r.words;
+        asked = (r.between, r.middle.reads, r.asked);
+        plainly = r.plainly;
       }
 
   reaches : ReachesModel a before now end ⊎ AsksNothing a before now end

@@ -42,7 +42,8 @@ use Rattle.lw_report.specs.declared.outcome.Outcome.{Outcome}
 use Rattle.lw_report.specs.declared.outcome.Outcome.TheVariants.{Accepted, Alphabets, BadAcceptor, BadFile, FileFault, FileTooLong, Learned, NoMemory, Nondeterministic, NotAcceptor, SinkFault, SourceFault, SuiteTooLarge, TooManyStates, UnknownLetter, Unstarted, Usage, Yes}
 use Rattle.lw_report.specs.declared.role.Role.{Role}
 use Rattle.lw_learn.specs.Arguments.{LearnValues}
-use Rattle.lw_learn.specs.Ending.{IsSoundSystem, IsUncountedSystem}
+use Rattle.lw_learn.specs.Asking.{SaysWords}
+use Rattle.lw_learn.specs.Ending.{EndsPlainly, IsSoundSystem, IsUncountedSystem}
 use Rattle.lw_learn.specs.Outcomes.{IsBadLine, IsReachedOutcome}
 use Rattle.lw_learn.specs.Tasks.{ReadsTask}
 use Rattle.lw_learn.specs.Writing.{NothingFailed, PutsAll, StandsInFile}
@@ -141,14 +142,19 @@ pub record SaysTask (a : LearnValues) (before now : FilesState) (s : System) (pr
   pub task : ReadsTask a before.holds before.reads between s prior
   pub reads : now.reads ≡ between ++ more
 
--- the files said a system and earlier answers, and it was learned; the recorded answers are these and its runs, and a
--- model has its letters
+-- the files said a system, earlier answers and words that are asked first, and it was learned; the recorded answers
+-- are the earlier ones and its runs, and a model has its letters. A model of a table that was learned by the W-method
+-- with no earlier answers is the plain learner's, and so are the refinements and the words of the recorded answers, at
+-- every number of workers and in every schedule
 pub record KeepsLearned (a : LearnValues) (before now : WorldState) (end : End) : Type 0 where
   pub system : System
   pub prior : List KeptAnswer
   pub task : SaysTask a before.files now.files system prior
   pub keeps : KeepsSystem a.workers system end.outputs prior before.spawner now.spawner end.kept.answers
   pub letters : IsOverLetters (length (letters_of system)) end.model
+  pub words : List (List ℕ)
+  pub asked : (between : List File) × (after : List File) × SaysWords a (letters_of system) before.files.holds between after words
+  pub plainly : EndsPlainly a (length (letters_of system)) words prior end
 
 -- a file was refused, earlier answers clash, or memory ran out
 abbrev pub IsBeforeAsking : Outcome → Type 0
