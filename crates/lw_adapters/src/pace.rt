@@ -51,6 +51,11 @@ impl Pace {
         self.unheard <= MOST_AHEAD && self.watched.as_ref().is_none_or(|it| it.begins())
     }
 
+    /// Whether what came behind a send that waited at a full pipe is no answer to it.
+    pub fn is_over(&self) -> bool {
+        self.watched.as_ref().is_some_and(|it| it.is_closed())
+    }
+
     /// What was to be sent was sent, or can't be.
     pub fn ended(&self) {
         if let Some(watched) = &self.watched {

@@ -76,7 +76,12 @@ impl<W: Write, R: Read> Link for PipeLink<W, R> {
         sent
     }
 
+    /// Fails too behind a send that waited too long at a full pipe.
     fn take(&mut self, buffer: &mut [u8]) -> Result<usize, Failed> {
+        if self.pace.is_over() {
+            self.faults = self.faults.saturating_add(1);
+            return Err(Failed);
+        }
         match self.output.read(buffer) {
             Ok(count) => {
                 self.pace.receives(&buffer[..count]);

@@ -18,9 +18,12 @@ const MOST_LOOKS: u8 = 5;
 /// How often room is made for one send: the pages of a large pipe.
 const MOST_PAGES: u8 = 16;
 
-/// The mark of a send for which room was made, while it is under way.
+/// The mark of a send for which room is to be made. One more is 0, the mark of a link over which nothing was sent: where it ends
+/// before that, it was only held up.
 const GIVEN_UP: u64 = u64::MAX;
-/// The mark of a link behind such a send.
+/// The mark of one for which room is made: what it sends may be read here.
+const MADE_ROOM: u64 = u64::MAX - 2;
+/// One more: the mark of a link behind such a send.
 const CLOSED: u64 = u64::MAX - 1;
 
 /// How far the sends over a link are: twice their number, and one less while the last is under way. With the pipe's descriptor.
@@ -38,8 +41,8 @@ impl Mark {
         }
     }
 
-    fn is_given_up(&self) -> bool {
-        self.sends.load(Ordering::SeqCst) == GIVEN_UP
+    fn is(&self, mark: u64) -> bool {
+        self.sends.load(Ordering::SeqCst) == mark
     }
 
     /// Puts one mark in the place of another. Says whether that one was still there.
@@ -107,13 +110,18 @@ impl Watched {
         self.sends.marks.get(usize::try_from(self.place).ok()?)
     }
 
-    /// A send begins. Not where one was given up.
+    /// Whether a send over this link was given up, and bytes that it had sent may have been read here.
+    pub fn is_closed(&self) -> bool {
+        self.mark().is_some_and(|it| it.is(CLOSED))
+    }
+
+    /// A send begins. Not over a link that is closed.
     pub fn begins(&self) -> bool {
         let Some(mark) = self.mark() else {
             return true;
         };
         let before = mark.sends.load(Ordering::SeqCst);
-        if before >= CLOSED {
+        if before == CLOSED {
             return false;
         }
         mark.sends.store(before.wrapping_add(1), Ordering::SeqCst);
@@ -122,12 +130,8 @@ impl Watched {
 
     /// The send that began has ended.
     pub fn ends(&self) {
-        let Some(mark) = self.mark() else {
-            return;
-        };
-        let now = mark.sends.load(Ordering::SeqCst);
-        if now == GIVEN_UP || !mark.replace(now, now.wrapping_add(1)) {
-            mark.sends.store(CLOSED, Ordering::SeqCst);
+        if let Some(mark) = self.mark() {
+            mark.sends.fetch_add(1, Ordering::SeqCst);
         }
     }
 }
@@ -144,7 +148,7 @@ impl Look {
 
     /// Looks once more. Says whether the send that has this mark was found under way too often.
     fn is_too_long(&mut self, mark: u64) -> bool {
-        let same = mark == self.mark && mark % 2 == 1 && mark != GIVEN_UP;
+        let same = mark == self.mark && mark % 2 == 1;
         let looks = if same {
             self.looks.saturating_add(1)
         } else {
@@ -155,7 +159,7 @@ impl Look {
     }
 }
 
-/// Reads from the pipe of a send that was given up, until it has ended.
+/// Reads from the pipe of a send that was given up, until it has ended. Nothing where it can't be opened.
 fn make_room<R: Files + Clock + AllocGlobal>(rt: &R, mark: &Mark) {
     let number = mark.pipe.load(Ordering::SeqCst);
     let Ok(name) = format!(in rt.alloc(); "/proc/self/fd/{number}") else {
@@ -164,10 +168,11 @@ fn make_room<R: Files + Clock + AllocGlobal>(rt: &R, mark: &Mark) {
     let Ok(mut pipe) = fs::open(rt, name.as_str()) else {
         return;
     };
+    // (where the send is still under way, the descriptor was that of its pipe when it was opened)
+    mark.replace(GIVEN_UP, MADE_ROOM);
     let mut page = [0u8; 4096];
     for _ in 0..MOST_PAGES {
-        // (the send is under way, so the descriptor was still that of its pipe when it was opened, and the pipe is full)
-        if !mark.is_given_up() {
+        if !mark.is(MADE_ROOM) {
             return;
         }
         let _count = pipe.read(&mut page);
@@ -179,7 +184,10 @@ fn make_room<R: Files + Clock + AllocGlobal>(rt: &R, mark: &Mark) {
 fn look_at_all<R: Files + Clock + AllocGlobal>(rt: &R, marks: &[Mark], looks: &mut [Look]) {
     for (mark, look) in marks.iter().zip(looks.iter_mut()) {
         let now = mark.sends.load(Ordering::SeqCst);
-        if look.is_too_long(now) && mark.replace(now, GIVEN_UP) {
+        if look.is_too_long(now) {
+            if now < MADE_ROOM {
+                mark.replace(now, GIVEN_UP);
+            }
             make_room(rt, mark);
         }
     }
