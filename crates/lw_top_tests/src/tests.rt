@@ -15,10 +15,10 @@ mod trials;
 mod two_at_once;
 
 use crate::tests::cases::{
-    Case, LEARN, ONE, PLAIN, Shell, call, check, check_over, end_of, file_of, files_of, sink,
-    stands,
+    Case, LEARN, ONE, PLAIN, Shell, check_all, check_files, check_over, end_of, file_of, files_of,
+    let_go, says, sink, stands,
 };
-use lw_outside::MemoryFiles;
+use lw_outside::{MemoryFiles, MemorySink};
 use lw_report::End;
 use lw_top::without_arguments;
 use lw_words::Kept;
@@ -77,12 +77,18 @@ fn is_first_learned(end: &End) -> bool {
     end.model.is_some() && is_first_run(&end.kept)
 }
 
+/// Whether the plain case learns by that answer alone.
+fn learns_first<R: Abort + Threads + Wait + Sync + Copy + Drop>(rt: &R, alloc: Global) -> bool {
+    let end = end_of(rt, alloc, &PLAIN);
+    let right = is_first_learned(&end);
+    let_go(end);
+    right
+}
+
 #[test]
 fn shipped_machines(rt: HostRuntime) {
-    assert!(rt; is_first_learned(&end_of(&rt, rt.alloc(), &PLAIN)));
-    for case in &SHIPPED {
-        check(&rt, rt.alloc(), case);
-    }
+    assert!(rt; learns_first(&rt, rt.alloc()));
+    check_all(&rt, rt.alloc(), &SHIPPED);
 }
 
 /// A call that writes both files.
@@ -159,10 +165,22 @@ fn is_whole(end: &End) -> bool {
     end.model.is_some() == (end.kept.len() > 0)
 }
 
+/// Whether a case ends so.
+fn ends_whole<R: Abort + Threads + Wait + Sync + Copy + Drop>(
+    rt: &R,
+    alloc: Global,
+    case: &Case,
+) -> bool {
+    let end = end_of(rt, alloc, case);
+    let right = is_whole(&end);
+    let_go(end);
+    right
+}
+
 #[test]
 fn failing_files_and_streams(rt: HostRuntime) {
     for case in &FAILING {
-        assert!(rt; is_whole(&end_of(&rt, rt.alloc(), case)), "{}", case.err);
+        assert!(rt; ends_whole(&rt, rt.alloc(), case), "{}", case.err);
     }
 }
 
@@ -210,10 +228,18 @@ fn files_that_are_written(rt: HostRuntime) {
     assert!(rt; leaves(&rt, alloc, &FAILS_LATER, &[("h", ONE)]));
 }
 
+/// The status of a call for whose arguments there is no memory.
+fn status_without(alloc: Global, err: &mut MemorySink) -> u8 {
+    let end = without_arguments(alloc, err);
+    let status = end.status;
+    let_go(end);
+    status
+}
+
 #[test]
 fn no_memory_for_arguments(rt: HostRuntime) {
     let mut err = sink(&rt, rt.alloc(), 3, &[]);
-    assert!(rt; without_arguments(rt.alloc(), &mut err).status == 5);
+    assert!(rt; status_without(rt.alloc(), &mut err) == 5);
     assert!(rt; err.taken() == "no memory\n".as_bytes());
 }
 
@@ -233,8 +259,7 @@ fn ends_with<R: Abort + Threads + Wait + Sync + Copy + Drop>(
     said: &str,
 ) -> bool {
     let mut shell = Shell::new(rt, alloc, &LEARN, padded(rt, alloc, bytes));
-    let end = call(rt, alloc, &mut shell);
-    end.status == status && shell.world.err.taken() == said.as_bytes()
+    says(rt, alloc, &mut shell, status, said)
 }
 
 #[test]
@@ -246,7 +271,8 @@ fn the_longest_file_and_a_longer_one(rt: HostRuntime) {
 }
 
 /// Calls of `check` after a call that wrote both files.
-static CHECKS: [Case; 3] = [
+static CHECKS: [Case; 4] = [
+    WRITES,
     Case {
         arguments: &["check", "h", "k", "--extra", "0"],
         out: "yes: states 1, extra 0, answers 1\n",
@@ -271,10 +297,6 @@ static CHECKS: [Case; 3] = [
 
 #[test]
 fn check_of_what_was_learned(rt: HostRuntime) {
-    let alloc = rt.alloc();
-    let mut shell = Shell::new(&rt, alloc, &LEARN, files_of(&rt, alloc, ONE, &[]));
-    check_over(&rt, alloc, &WRITES, &mut shell);
-    for case in &CHECKS {
-        check_over(&rt, alloc, case, &mut shell);
-    }
+    let files = files_of(&rt, rt.alloc(), ONE, &[]);
+    check_files(&rt, rt.alloc(), files, &CHECKS);
 }

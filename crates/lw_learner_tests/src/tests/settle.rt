@@ -4,6 +4,7 @@ ghost use Rattle.test_tree.specs.Trials.{IsReady};
 
 mod trial;
 
+use crate::tests::{Batch, has_settled};
 use lw_mealy::Mealy;
 use lw_settle::{Settled, some_block_is_parted};
 use lw_words::Words;
@@ -18,11 +19,22 @@ const T: u16 = 0;
 
 /// Whether a list has just these words, in any order.
 fn has_just(words: &Words, expected: &[&[u16]]) -> bool {
-    let has = |letters: &[u16]| words
-        .as_slice()
-        .iter()
-        .any(|word| word.as_slice() == letters);
-    words.len() == expected.len() && expected.iter().all(|letters| has(letters))
+    for letters in expected {
+        if !has_word(words, letters) {
+            return false;
+        }
+    }
+    words.len() == expected.len()
+}
+
+/// Whether a list has a word of these letters.
+fn has_word(words: &Words, letters: &[u16]) -> bool {
+    for word in words.as_slice() {
+        if word.as_slice() == letters {
+            return true;
+        }
+    }
+    false
 }
 
 /// The machine that answers these outputs, one after the other, and then begins anew.
@@ -36,26 +48,12 @@ fn cycle(rt: &impl Abort, alloc: Global, outputs: [u16; 3]) -> Mealy {
     Mealy::new(alloc, 1, 2, rows).expect(rt, "a machine")
 }
 
-/// A batch by its number, and its words in their order.
-struct Batch {
-    number: usize,
-    words: &'static [&'static [u16]],
-}
-
 /// How many batches were settled, and the words of some; the discriminators, in any order, and how many nodes are temporary.
 struct Left {
     count: usize,
     batches: &'static [Batch],
     discriminators: &'static [&'static [u16]],
     temporary: u32,
-}
-
-/// Whether an oracle settled so many batches, and these among them.
-fn has_settled(oracle: &Recording, count: usize, batches: &[Batch]) -> bool {
-    let are_asked = batches
-        .iter()
-        .all(|batch| oracle.asked(batch.number, batch.words));
-    oracle.batches().len() == count && are_asked
 }
 
 /// Whether that is left.

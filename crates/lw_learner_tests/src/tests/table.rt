@@ -1,17 +1,11 @@
 //! New tables, tables that are closed over machines, and the laws.
 mod closing;
 
+use crate::tests::are;
 use lw_table::{
     ObservationTable, access_is_crowd, access_leads, cells_stay, closed_has_machine,
     machine_gives_cells, new_is_read, one_machine,
 };
-use lw_words::Words;
-
-/// Whether a list has just these words, in this order.
-fn are(words: &Words, expected: &[&[u16]]) -> bool {
-    let mut each = words.as_slice().iter().zip(expected.iter());
-    words.len() == expected.len() && each.all(|(word, letters)| word.as_slice() == *letters)
-}
 
 /// Whether a table has these access words and suffixes, and was never refined.
 fn has(table: &ObservationTable, access: &[&[u16]], suffixes: &[&[u16]]) -> bool {

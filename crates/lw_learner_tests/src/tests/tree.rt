@@ -8,6 +8,7 @@ mod levels;
 mod replacing;
 mod splits;
 
+use crate::tests::{Batch, are, has_settled};
 use lw_mealy::Mealy;
 use lw_tree::{
     DiscriminationTree, access_is_crowd, access_leads, branches_stay, closed_has_machine,
@@ -25,12 +26,6 @@ const B: u16 = 1;
 
 /// No batch is refused.
 const NEVER: usize = 1000;
-
-/// Whether a list has just these words, in this order.
-fn are(words: &Words, expected: &[&[u16]]) -> bool {
-    let mut each = words.as_slice().iter().zip(expected.iter());
-    words.len() == expected.len() && each.all(|(word, letters)| word.as_slice() == *letters)
-}
 
 /// Whether a state of a closed tree has this row.
 fn has_row(tree: &DiscriminationTree, state: u16, row: &[(u16, u16)]) -> bool
@@ -128,20 +123,6 @@ fn machine(rt: &impl Abort, alloc: Global, asked: Asked) -> Mealy {
         Asked::Fan => fan(rt, alloc),
         Asked::Lock => lock(rt, alloc),
     }
-}
-
-/// A batch by its number, and its words in their order.
-struct Batch {
-    number: usize,
-    words: &'static [&'static [u16]],
-}
-
-/// Whether an oracle settled so many batches, and these among them.
-fn has_settled(oracle: &Recording, count: usize, batches: &[Batch]) -> bool {
-    let are_asked = batches
-        .iter()
-        .all(|batch| oracle.asked(batch.number, batch.words));
-    oracle.batches().len() == count && are_asked
 }
 
 /// What a tree tells of itself.

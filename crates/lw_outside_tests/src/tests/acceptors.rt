@@ -156,11 +156,20 @@ static NO_ACCEPTORS: [(&str, AcceptorFault); 37] = [
     ),
 ];
 
+/// The acceptor of a text.
+pub fn acceptor(rt: &impl Abort, alloc: Global, text: &str) -> Acceptor {
+    read_acceptor(alloc, text.as_bytes()).expect(rt, "an acceptor")
+}
+
+/// What is written of an acceptor.
+pub fn accepted(rt: &impl Abort, alloc: Global, acceptor: &Acceptor) -> Vec<u8> {
+    acceptor_text(alloc, acceptor).expect(rt, "memory")
+}
+
 /// Whether the acceptor of a text is written so.
 fn is_written_so(rt: &impl Abort, alloc: Global, text: &str, expected: &str) -> bool {
-    let acceptor = read_acceptor(alloc, text.as_bytes()).expect(rt, "an acceptor");
-    let written = acceptor_text(alloc, &acceptor).expect(rt, "memory");
-    written.as_slice() == expected.as_bytes()
+    let acceptor = acceptor(rt, alloc, text);
+    accepted(rt, alloc, &acceptor).as_slice() == expected.as_bytes()
 }
 
 /// Whether it is the acceptor of the words of even length over one letter.
@@ -178,7 +187,7 @@ fn an_acceptor_is_read_and_written(rt: HostRuntime) {
     for text in &SPELLED {
         assert!(rt; is_written_so(&rt, alloc, text, EVEN), "{text}");
     }
-    let even = read_acceptor(alloc, EVEN.as_bytes()).expect(&rt, "an acceptor");
+    let even = acceptor(&rt, alloc, EVEN);
     assert!(rt; is_even(&even));
     assert!(rt; even.inputs().number("a") == Some(0));
 }
@@ -195,8 +204,7 @@ fn fault_of(rt: &impl Abort, alloc: Global, bytes: &[u8]) -> AcceptorFault {
 fn the_first_fault_of_an_acceptor_file_is_told(rt: HostRuntime) {
     let alloc = rt.alloc();
     for (text, first) in &NO_ACCEPTORS {
-        let fault = fault_of(&rt, alloc, text.as_bytes());
-        assert_eq!(rt; fault, *first, "{text}");
+        assert!(rt; fault_of(&rt, alloc, text.as_bytes()) == *first, "{text}");
     }
 }
 

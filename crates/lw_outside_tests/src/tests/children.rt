@@ -1,6 +1,7 @@
 //! What no clause says: that children are started where there is memory, by hand, and learned over.
 ghost use Rattle.std.specs.Prelude.{◌≡◌, ◌<◌, length};
 
+use crate::tests::{names, scripts};
 use lw_children::start_all;
 use lw_json::{Command, Texts};
 use lw_outside::MemorySpawner;
@@ -9,16 +10,6 @@ use std::alloc::Global;
 use std::process::Abort;
 
 mod learnings;
-
-/// Names, of letters or of outputs.
-fn names(rt: &impl Abort, alloc: Global, list: &[&str]) -> Names {
-    let mut texts = Vec::new(alloc);
-    for name in list {
-        let text = String::from_str(alloc, name).expect(rt, "memory");
-        texts.push(text).expect(rt, "memory");
-    }
-    Names::from_list(alloc, &texts).expect(rt, "names")
-}
 
 /// The command `sys`, over the letter `t`, with these outputs or none declared.
 fn command(rt: &impl Abort, alloc: Global, outputs: Option<Names>) -> Command
@@ -37,13 +28,9 @@ fn command(rt: &impl Abort, alloc: Global, outputs: Option<Names>) -> Command
 
 /// A spawner of two children that say this and then end; the start of this number fails.
 fn speakers(rt: &impl Abort, alloc: Global, text: &[u8], failing: u64) -> MemorySpawner {
-    let mut scripts = Vec::new(alloc);
-    for _ in 0..2 {
-        let script = Vec::from_slice(alloc, text).expect(rt, "memory");
-        scripts.push(script).expect(rt, "memory");
-    }
+    let two = scripts(rt, alloc, &[text, text]);
     let plan = Vec::from_slice(alloc, &[failing]).expect(rt, "memory");
-    MemorySpawner::scripted(alloc, scripts, 256, plan, Vec::new(alloc)).expect(rt, "memory")
+    MemorySpawner::scripted(alloc, two, 256, plan, Vec::new(alloc)).expect(rt, "memory")
 }
 
 /// Starts two children, and counts those that were started.

@@ -3,30 +3,16 @@ mod links;
 mod player;
 mod spawners;
 
-use lw_outside::{
-    Files, FilesStop, MemoryFiles, MemorySink, MemorySource, Sink, Source, WriteStop,
-};
+use crate::tests::{files_of, sink_of, source_of};
+use lw_outside::{Files, FilesStop, MemoryFiles, Sink, Source, WriteStop};
 use std::alloc::Global;
 use std::process::Abort;
-
-/// Names and their texts.
-fn named(rt: &impl Abort, alloc: Global, list: &[(&str, &str)]) -> Vec<(String, Vec<u8>)> {
-    let mut files = Vec::new(alloc);
-    for (name, text) in list {
-        let name = String::from_str(alloc, name).expect(rt, "memory");
-        let bytes = Vec::from_slice(alloc, text.as_bytes()).expect(rt, "memory");
-        files.push((name, bytes)).expect(rt, "memory");
-    }
-    files
-}
 
 static FILES: [(&str, &str); 3] = [("a", "old"), ("b", "two"), ("a", "new")];
 
 /// Files `a` and `b`, where a later `a` wins, and the calls of the plan fail.
 fn two_files(rt: &impl Abort, alloc: Global, plan: &[u64]) -> MemoryFiles {
-    let files = named(rt, alloc, &FILES);
-    let plan = plan.to_vec(alloc).expect(rt, "memory");
-    MemoryFiles::new(alloc, files, plan).expect(rt, "memory")
+    files_of(rt, alloc, &FILES, plan)
 }
 
 fn reads<F: Files>(files: &mut F, name: &str, text: &str) -> bool {
@@ -159,8 +145,7 @@ static PUTS: [(&[u8], Option<usize>); 4] = [
 
 /// Whether a sink with a room of five bytes takes three at a time, but for a call that fails.
 fn sink_goes(rt: &impl Abort, alloc: Global) -> bool {
-    let plan = [1u64].to_vec(alloc).expect(rt, "memory");
-    let mut sink = MemorySink::new(alloc, 5, 3, plan).expect(rt, "memory");
+    let mut sink = sink_of(rt, alloc, 5, 3, &[1]);
     takes_all_so(&mut sink, &PUTS) && sink.taken() == b"abcde".as_slice()
 }
 
@@ -192,9 +177,7 @@ static READS: [Option<(usize, u8)>; 4] = [Some((3, b'a')), None, Some((2, b'd'))
 
 /// Whether a source of five bytes gives three at a time, but for a call that fails.
 fn source_goes(rt: &impl Abort, alloc: Global) -> bool {
-    let bytes = b"abcde".to_vec(alloc).expect(rt, "memory");
-    let plan = [1u64].to_vec(alloc).expect(rt, "memory");
-    let mut source = MemorySource::new(bytes, 3, plan).expect(rt, "memory");
+    let mut source = source_of(rt, alloc, b"abcde", 3, &[1]);
     gives_so(&mut source, &READS)
 }
 

@@ -1,4 +1,5 @@
 //! What no clause says: that the calls succeed. The texts are worked by hand.
+use crate::tests::{files_of, names, sink_of};
 use lw_accept::AcceptorFault;
 use lw_json::{Field, JsonFault};
 use lw_mealy::MealyFault;
@@ -10,7 +11,7 @@ use lw_report::{
 use lw_system::{
     AcceptorStop, NoSystem, ReadStop, read_answers_file, read_machine_file, read_setup_file,
 };
-use lw_words::{Kept, Names, NamesFault, Word, Words};
+use lw_words::{Kept, NamesFault, Word, Words};
 use std::alloc::Global;
 use std::process::Abort;
 
@@ -22,15 +23,6 @@ const ANSWERS: &str =
     "{\"answers\":[[0,0,\"t\",\"0\"]],\"format\":2,\"inputs\":[\"t\"],\"outputs\":[\"0\"]}\n";
 
 const SETUP: &str = "{\"command\":[\"child\"],\"inputs\":[\"t\"]}\n";
-
-fn names(rt: &impl Abort, alloc: Global, list: &[&str]) -> Names {
-    let mut all = Vec::new(alloc);
-    for name in list {
-        let text = String::from_str(alloc, name).expect(rt, "memory");
-        all.push(text).expect(rt, "memory");
-    }
-    Names::from_list(alloc, &all).expect(rt, "names")
-}
 
 /// Whether this is the line of the outcome, over the inputs `t` and `u`.
 fn says(rt: &impl Abort, alloc: Global, outcome: Outcome, line: &str) -> bool {
@@ -79,12 +71,6 @@ fn a_crowd_by_its_names(rt: HostRuntime) {
     assert!(rt; says(&rt, alloc, outcome, lines));
 }
 
-/// No files, of which the calls of the plan fail.
-fn no_files(rt: &impl Abort, alloc: Global, plan: &[u64]) -> MemoryFiles {
-    let plan = Vec::from_slice(alloc, plan).expect(rt, "memory");
-    MemoryFiles::new(alloc, Vec::new(alloc), plan).expect(rt, "memory")
-}
-
 /// Whether a model and answers are written, and a third file is refused.
 fn two_are_written(files: &mut MemoryFiles) -> bool {
     let model = write_file(files, Role::Model, "m", MACHINE.as_bytes());
@@ -111,7 +97,7 @@ fn setup_stop(alloc: Global, files: &mut MemoryFiles, name: &str) -> Option<Read
 #[test]
 fn files_are_read_and_written(rt: HostRuntime) {
     let alloc = rt.alloc();
-    let mut files = no_files(&rt, alloc, &[2]);
+    let mut files = files_of(&rt, alloc, &[], &[2]);
     assert!(rt; two_are_written(&mut files));
     assert!(rt; machine_stop(alloc, &mut files, "m").is_none());
     assert!(rt; answers_stop(alloc, &mut files, "k").is_none());
@@ -130,7 +116,7 @@ fn setup_goes(alloc: Global, files: &mut MemoryFiles) -> bool {
 #[test]
 fn a_setup_is_read(rt: HostRuntime) {
     let alloc = rt.alloc();
-    let mut files = no_files(&rt, alloc, &[]);
+    let mut files = files_of(&rt, alloc, &[], &[]);
     assert!(rt; setup_goes(alloc, &mut files));
 }
 
@@ -144,8 +130,7 @@ fn tells_fault(rt: &impl Abort, alloc: Global, sink: &mut MemorySink) -> bool {
 /// The status after a model is refused, which isn't JSON.
 fn refusal(alloc: Global, sink: &mut MemorySink) -> u8 {
     let stop = read_outcome(ReadStop::Bad(JsonFault::NotJson), Role::Model);
-    let End { status, .. } = refuse(alloc, stop, UNSAID, Kept::new(alloc), None, 1, sink);
-    status
+    told(alloc, stop, sink)
 }
 
 /// The status after an outcome, whose text is put.
@@ -157,7 +142,7 @@ fn told(alloc: Global, outcome: Outcome, sink: &mut MemorySink) -> u8 {
 #[test]
 fn acceptors_that_are_not_read(rt: HostRuntime) {
     let alloc = rt.alloc();
-    let mut sink = MemorySink::new(alloc, 100, 4, Vec::new(alloc)).expect(&rt, "memory");
+    let mut sink = sink_of(&rt, alloc, 100, 4, &[]);
     let letters = AcceptorStop::Letters(AcceptorFault::Reserved(2));
     let reserved = no_system_outcome(NoSystem::Acceptor(letters));
     assert!(rt; told(alloc, reserved, &mut sink) == 3);
@@ -174,7 +159,7 @@ fn acceptors_that_are_not_read(rt: HostRuntime) {
 #[test]
 fn reports_and_refusals(rt: HostRuntime) {
     let alloc = rt.alloc();
-    let mut sink = MemorySink::new(alloc, 100, 4, Vec::new(alloc)).expect(&rt, "memory");
+    let mut sink = sink_of(&rt, alloc, 100, 4, &[]);
     assert!(rt; tells_fault(&rt, alloc, &mut sink));
     assert!(rt; refusal(alloc, &mut sink) == 3);
     assert_eq!(rt;

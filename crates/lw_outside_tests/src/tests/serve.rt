@@ -1,4 +1,5 @@
 //! The rows worked by hand, over files and streams in memory.
+use crate::tests::{files_of, sink_of, source_of};
 use lw_outside::{MemoryFiles, MemorySink, MemorySource};
 use lw_serve::serve;
 use std::alloc::Global;
@@ -108,32 +109,12 @@ struct Outside {
     err: MemorySink,
 }
 
-fn files(rt: &impl Abort, alloc: Global, case: &Case) -> MemoryFiles {
-    let name = String::from_str(alloc, "counter").expect(rt, "memory");
-    let bytes = Vec::from_slice(alloc, case.held.as_bytes()).expect(rt, "memory");
-    let mut held = Vec::new(alloc);
-    held.push((name, bytes)).expect(rt, "memory");
-    MemoryFiles::new(alloc, held, Vec::new(alloc)).expect(rt, "memory")
-}
-
-/// The input, six bytes at most a read.
-fn input(rt: &impl Abort, alloc: Global, case: &Case) -> MemorySource {
-    let bytes = Vec::from_slice(alloc, case.input.as_bytes()).expect(rt, "memory");
-    let plan = Vec::from_slice(alloc, case.input_plan).expect(rt, "memory");
-    MemorySource::new(bytes, 6, plan).expect(rt, "memory")
-}
-
-fn sink(rt: &impl Abort, alloc: Global, plan: &[u64]) -> MemorySink {
-    let plan = Vec::from_slice(alloc, plan).expect(rt, "memory");
-    MemorySink::new(alloc, 200, 7, plan).expect(rt, "memory")
-}
-
 fn prepare(rt: &impl Abort, alloc: Global, case: &Case) -> Outside {
     Outside {
-        files: files(rt, alloc, case),
-        input: input(rt, alloc, case),
-        out: sink(rt, alloc, case.out_plan),
-        err: sink(rt, alloc, case.err_plan),
+        files: files_of(rt, alloc, &[("counter", case.held)], &[]),
+        input: source_of(rt, alloc, case.input.as_bytes(), 6, case.input_plan),
+        out: sink_of(rt, alloc, 200, 7, case.out_plan),
+        err: sink_of(rt, alloc, 200, 7, case.err_plan),
     }
 }
 

@@ -1,10 +1,13 @@
 //! Acceptors and the machines that are asked in their place. Machines and faults are worked by hand.
 
+use crate::tests::acceptors::{accepted, acceptor};
+use crate::tests::{files_of, machine, written};
 use lw_accept::{
-    AcceptorFault, AcceptorField, ViewFault, acceptor_text, answer_names, asked_names,
-    letters_behind, read_acceptor, unview, view,
+    Acceptor, AcceptorFault, AcceptorField, ViewFault, answer_names, asked_names, letters_behind,
+    unview, view,
 };
-use lw_json::{Field, JsonFault, machine_text, read_machine};
+use lw_json::{Field, JsonFault, Machine};
+use lw_mealy::Mealy;
 use lw_outside::MemoryFiles;
 use lw_report::{Role, write_file};
 use lw_system::{
@@ -32,21 +35,30 @@ static NO_VIEWS: [(&str, u16, u16); 6] = [
     ("[[[0,\"yes\"],[1,\"no\"]],[[0,\"no\"],[0,\"ok\"]]]", 0, 1),
 ];
 
+/// The machine that is asked in the place of a text's acceptor.
+fn view_of(rt: &impl Abort, alloc: Global, acceptor: &Acceptor) -> Machine {
+    view(alloc, acceptor).expect(rt, "memory")
+}
+
 /// The text of the machine that is asked in an acceptor's place.
 fn viewed(rt: &impl Abort, alloc: Global, text: &str) -> Vec<u8> {
-    let acceptor = read_acceptor(alloc, text.as_bytes()).expect(rt, "an acceptor");
-    let machine = view(alloc, &acceptor).expect(rt, "memory");
-    machine_text(alloc, &machine).expect(rt, "memory")
+    let acceptor = acceptor(rt, alloc, text);
+    written(rt, alloc, &view_of(rt, alloc, &acceptor))
+}
+
+/// The acceptor that stands in its machine.
+fn back(rt: &impl Abort, alloc: Global, acceptor: &Acceptor) -> Acceptor {
+    let machine = view(alloc, acceptor).expect(rt, "memory");
+    let Ok(back) = unview(alloc, &machine.mealy, acceptor.inputs()) else {
+        rt.panic("an acceptor's machine is refused");
+    };
+    back
 }
 
 /// The text of the acceptor that stands in its machine.
 fn viewed_back(rt: &impl Abort, alloc: Global, text: &str) -> Vec<u8> {
-    let acceptor = read_acceptor(alloc, text.as_bytes()).expect(rt, "an acceptor");
-    let machine = view(alloc, &acceptor).expect(rt, "memory");
-    let Ok(back) = unview(alloc, &machine.mealy, acceptor.inputs()) else {
-        rt.panic("an acceptor's machine is refused");
-    };
-    acceptor_text(alloc, &back).expect(rt, "memory")
+    let acceptor = acceptor(rt, alloc, text);
+    accepted(rt, alloc, &back(rt, alloc, &acceptor))
 }
 
 #[test]
@@ -56,19 +68,27 @@ fn an_acceptor_is_asked_by_its_machine(rt: HostRuntime) {
     assert!(rt; viewed_back(&rt, alloc, EVEN).as_slice() == EVEN.as_bytes());
 }
 
-/// The first pair of these states that is none of an acceptor's machine over `?` and one letter.
-fn first_fault(rt: &impl Abort, alloc: Global, states: &str) -> Option<ViewFault> {
-    let even = read_acceptor(alloc, EVEN.as_bytes()).expect(rt, "an acceptor");
+/// The machine of these states over `?` and one letter.
+fn over_one(rt: &impl Abort, alloc: Global, states: &str) -> Machine {
     let text = format!(in alloc;
         "{{\"inputs\":[\"?\",\"a\"],\"outputs\":[\"yes\",\"no\",\"ok\"],\"states\":{states}}}"
     );
-    let text = text.expect(rt, "memory");
-    let machine = read_machine(alloc, text.as_bytes()).expect(rt, "a machine");
-    let mealy = &machine.mealy;
-    if mealy.inputs() != even.inputs().len() + 1 || mealy.outputs() != 3 {
+    machine(rt, alloc, text.expect(rt, "memory").as_bytes())
+}
+
+/// The first pair of a machine over `?` and an acceptor's letters that is none of an acceptor's machine.
+fn fault_in(alloc: Global, mealy: &Mealy, acceptor: &Acceptor) -> Option<ViewFault> {
+    if mealy.inputs() != acceptor.inputs().len() + 1 || mealy.outputs() != 3 {
         return None;
     }
-    unview(alloc, mealy, even.inputs()).err()
+    unview(alloc, mealy, acceptor.inputs()).err()
+}
+
+/// The first pair of these states that is none of an acceptor's machine over `?` and one letter.
+fn first_fault(rt: &impl Abort, alloc: Global, states: &str) -> Option<ViewFault> {
+    let even = acceptor(rt, alloc, EVEN);
+    let machine = over_one(rt, alloc, states);
+    fault_in(alloc, &machine.mealy, &even)
 }
 
 #[test]
@@ -83,13 +103,18 @@ fn the_first_pair_of_no_acceptor_is_told(rt: HostRuntime) {
     }
 }
 
+/// Puts so many names to a list.
+fn put_names(rt: &impl Abort, alloc: Global, list: &mut Vec<String>, count: u16) {
+    for n in 0..count {
+        let name = format!(in alloc; "n{n}").expect(rt, "memory");
+        list.push(name).expect(rt, "memory");
+    }
+}
+
 /// So many names, and one more.
 fn names_and(rt: &impl Abort, alloc: Global, count: u16, last: &str) -> Names {
     let mut list = Vec::new(alloc);
-    for n in 0..count {
-        list.push(format!(in alloc; "n{n}").expect(rt, "memory"))
-            .expect(rt, "memory");
-    }
+    put_names(rt, alloc, &mut list, count);
     let last = String::from_str(alloc, last).expect(rt, "memory");
     list.push(last).expect(rt, "memory");
     Names::from_list(alloc, &list).expect(rt, "names")
@@ -128,12 +153,16 @@ fn letters_and_answers_have_their_names(rt: HostRuntime) {
     assert!(rt; answers.number("ok") == Some(2));
 }
 
+/// Whether a file is written.
+fn is_written(files: &mut MemoryFiles, role: Role, name: &str, text: &str) -> bool {
+    write_file(files, role, name, text.as_bytes()) == Ok(())
+}
+
 /// Files with this setup, `s`, and the acceptor `e`.
 fn files_with(rt: &impl Abort, alloc: Global, setup: &str) -> MemoryFiles {
-    let mut files = MemoryFiles::new(alloc, Vec::new(alloc), Vec::new(alloc)).expect(rt, "memory");
-    let setup_goes = write_file(&mut files, Role::Setup, "s", setup.as_bytes());
-    let acceptor_goes = write_file(&mut files, Role::Table, "e", EVEN.as_bytes());
-    assert!(rt; setup_goes == Ok(()) && acceptor_goes == Ok(()));
+    let mut files = files_of(rt, alloc, &[], &[]);
+    assert!(rt; is_written(&mut files, Role::Setup, "s", setup));
+    assert!(rt; is_written(&mut files, Role::Table, "e", EVEN));
     files
 }
 
@@ -194,14 +223,27 @@ fn a_table_is_found_by_what_is_learned(rt: HostRuntime) {
     assert!(rt; found_for(&rt, alloc, Goal::Machine, "e").is_err());
 }
 
+/// What is written of the acceptor of a file.
+fn acceptor_file_text(rt: &impl Abort, alloc: Global, files: &mut MemoryFiles) -> Vec<u8> {
+    let acceptor = read_acceptor_file(alloc, files, "e").expect(rt, "an acceptor");
+    accepted(rt, alloc, &acceptor)
+}
+
+/// What is written of the machine in place of the acceptor of a file.
+fn view_file_text(rt: &impl Abort, alloc: Global, files: &mut MemoryFiles) -> Vec<u8> {
+    let machine = read_view_file(alloc, files, "e").expect(rt, "an acceptor");
+    written(rt, alloc, &machine)
+}
+
+/// Whether an acceptor file is read for itself and for its machine.
+fn is_read_twice(rt: &impl Abort, alloc: Global) -> bool {
+    let mut files = files_with(rt, alloc, EVEN_MACHINE);
+    let itself = acceptor_file_text(rt, alloc, &mut files);
+    let machine = view_file_text(rt, alloc, &mut files);
+    itself.as_slice() == EVEN.as_bytes() && machine.as_slice() == EVEN_MACHINE.as_bytes()
+}
+
 #[test]
 fn an_acceptor_file_is_read_for_itself_and_for_its_machine(rt: HostRuntime) {
-    let alloc = rt.alloc();
-    let mut files = files_with(&rt, alloc, EVEN_MACHINE);
-    let acceptor = read_acceptor_file(alloc, &mut files, "e").expect(&rt, "an acceptor");
-    let text = acceptor_text(alloc, &acceptor).expect(&rt, "memory");
-    assert!(rt; text.as_slice() == EVEN.as_bytes());
-    let machine = read_view_file(alloc, &mut files, "e").expect(&rt, "an acceptor");
-    let text = machine_text(alloc, &machine).expect(&rt, "memory");
-    assert!(rt; text.as_slice() == EVEN_MACHINE.as_bytes());
+    assert!(rt; is_read_twice(&rt, rt.alloc()));
 }

@@ -15,8 +15,9 @@ mod telling;
 use crate::tests::pool::acting::Acting;
 use crate::tests::pool::crews::{
     Plan, ROWS, all_words, are_all_answers, machine, meeting_pool, pool_of, settle, settles, sound,
-    sound_plans, words,
+    sound_plans,
 };
+use crate::tests::{are_words, words};
 use lw_cache::{AskStop, Clash, Oracle};
 use lw_pool::{ByCall, Pool, share};
 use lw_words::{Kept, SulStop, Word};
@@ -296,7 +297,7 @@ fn kept_by<O: Oracle>(rt: &impl Abort, oracle: &mut O, batch: &[Word]) -> usize
     ensures inputs { (O.state oracle.new).inputs ≡ 2 }
 {
     assert!(rt; batch.len() <= 1000);
-    assert!(rt; batch.iter().all(|w| w.as_slice().iter().all(|x| *x < 2)));
+    assert!(rt; are_words(batch, 2));
     assert!(rt; oracle.settle(batch).is_ok());
     oracle.cache().kept().len()
 }

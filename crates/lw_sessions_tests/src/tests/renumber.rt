@@ -5,6 +5,7 @@ ghost use Rattle.std.specs.Prelude.{◌≤◌, ◌<◌};
 ghost use Rattle.std.specs.List.{All};
 ghost use Rattle.lw_mealy.specs.Machine.{AnswersBelow};
 
+use crate::tests::are_below;
 use crate::tests::renumber::names::{falling, turning};
 use lw_cache::AskStop;
 use lw_mealy::Mealy;
@@ -39,10 +40,12 @@ fn has_outputs(model: &Mealy, outputs: &[u16]) -> bool {
     if model.inputs() != 1 || usize::from(model.states()) != outputs.len() {
         return false;
     }
-    outputs
-        .iter()
-        .enumerate()
-        .all(|(state, y)| model.step(state as u16, 0).1 == *y)
+    for state in 0..model.states() {
+        if model.step(state, 0).1 != outputs[usize::from(state)] {
+            return false;
+        }
+    }
+    true
 }
 
 /// What was learned, where a model was.
@@ -87,7 +90,7 @@ fn a_stop_stays(rt: HostRuntime) {
 fn kept_with(rt: &impl Abort, alloc: Global, outs: &[u16], bound: u16) -> Kept
     ensures { All (λ k. All (λ y. y < bound) k.outs) result.answers }
 {
-    assert!(rt; outs.iter().all(|y| *y < bound));
+    assert!(rt; are_below(outs, bound));
     let letters = vec![in alloc; 0; outs.len()].expect(rt, "memory");
     let outs = Vec::from_slice(alloc, outs).expect(rt, "memory");
     let answer = KeptAnswer {

@@ -5,6 +5,7 @@ ghost use Rattle.lw_words.specs.Word.{answers_of, IsWord};
 ghost use Rattle.lw_cache.specs.Clash.{NothingClashes};
 ghost use Rattle.lw_cache.specs.Settling.{MayAsk};
 
+use crate::tests::are_below;
 use crate::tests::workers::crews::{Refusing, pool_of};
 use lw_cache::AskStop;
 use lw_chunks::Method;
@@ -135,7 +136,7 @@ fn words_of(rt: &impl Abort, alloc: Global, long: usize) -> Words
         return words;
     }
     let letters = vec![in alloc; 0u16; long].expect(rt, "memory");
-    assert!(rt; letters.iter().all(|x| *x < 1));
+    assert!(rt; are_below(&letters, 1));
     assert!(rt; words.push(Word::new(alloc)).is_ok());
     assert!(rt; words.push(Word::from_letters(alloc, letters)).is_ok());
     words

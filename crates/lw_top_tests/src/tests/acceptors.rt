@@ -1,5 +1,8 @@
 //! Acceptors that are learned, asked and checked, worked by hand.
-use crate::tests::cases::{Case, PLAIN, Shell, check, check_over, files_of, play, stands};
+use crate::tests::cases::{
+    Case, PLAIN, Shell, check_all, check_all_over, check_files, check_over, files_of, let_go, play,
+    stands,
+};
 use lw_json::read_machine;
 use lw_outside::{MemoryFiles, MemorySpawner};
 use lw_report::{Role, write_file};
@@ -61,9 +64,7 @@ static LEARNED: [Case; 4] = [
 
 #[test]
 fn acceptors_that_are_learned(rt: HostRuntime) {
-    for case in &LEARNED {
-        check(&rt, rt.alloc(), case);
-    }
+    check_all(&rt, rt.alloc(), &LEARNED);
 }
 
 /// Files that are no acceptor's, arguments that aren't taken, and faults of a file and a stream.
@@ -124,9 +125,7 @@ static REFUSED: [Case; 7] = [
 
 #[test]
 fn acceptors_that_are_refused(rt: HostRuntime) {
-    for case in &REFUSED {
-        check(&rt, rt.alloc(), case);
-    }
+    check_all(&rt, rt.alloc(), &REFUSED);
 }
 
 /// A call that writes the acceptor and what it keeps, and calls of `check` and `ask` behind it.
@@ -167,20 +166,22 @@ static BEHIND: [Case; 4] = [
     },
 ];
 
+/// Checks the call that writes, the file that it writes, and the calls behind it.
+fn check_written<R: Abort + Threads + Wait + Sync + Copy + Drop>(
+    rt: &R,
+    alloc: Global,
+    shell: &mut Shell,
+) {
+    check_over(rt, alloc, &WRITES, shell);
+    assert!(rt; stands(&shell.world.files, "h", EVEN));
+    check_all_over(rt, alloc, &BEHIND, shell);
+}
+
 #[test]
 fn an_acceptor_is_written_checked_and_asked(rt: HostRuntime) {
-    let alloc = rt.alloc();
-    let mut shell = Shell::new(
-        &rt,
-        alloc,
-        WRITES.arguments,
-        files_of(&rt, alloc, EVEN, &[]),
-    );
-    check_over(&rt, alloc, &WRITES, &mut shell);
-    assert!(rt; stands(&shell.world.files, "h", EVEN));
-    for case in &BEHIND {
-        check_over(&rt, alloc, case, &mut shell);
-    }
+    let files = files_of(&rt, rt.alloc(), EVEN, &[]);
+    let mut shell = Shell::new(&rt, rt.alloc(), WRITES.arguments, files);
+    check_written(&rt, rt.alloc(), &mut shell);
 }
 
 /// What `check` says of EVEN and these answers.
@@ -210,10 +211,37 @@ fn even_and_answers(rt: &impl Abort, alloc: Global) -> MemoryFiles {
 #[test]
 fn answers_that_fix_an_acceptor(rt: HostRuntime) {
     let alloc = rt.alloc();
-    let mut shell = Shell::new(&rt, alloc, &[], even_and_answers(&rt, alloc));
-    for case in &CHECKED {
-        check_over(&rt, alloc, case, &mut shell);
-    }
+    check_files(&rt, alloc, even_and_answers(&rt, alloc), &CHECKED);
+}
+
+/// Children that play the machine of this text.
+fn players(rt: &impl Abort, alloc: Global, machine: &str) -> MemorySpawner {
+    let played = read_machine(alloc, machine.as_bytes()).expect(rt, "a machine");
+    let (starts, links) = (Vec::new(alloc), Vec::new(alloc));
+    MemorySpawner::serving(alloc, played, 10_000, starts, links).expect(rt, "memory")
+}
+
+/// A call of `accept` over the setup `m` and children that play the machine of this text.
+fn shell_over(rt: &impl Abort, alloc: Global, machine: &str) -> Shell {
+    let files = files_of(rt, alloc, SETUP, &[]);
+    let mut shell = Shell::new(rt, alloc, &["accept", "m", "--extra", "0"], files);
+    shell.world.spawner = players(rt, alloc, machine);
+    shell
+}
+
+/// Whether a call, which ends so, has a model and eight answers.
+fn is_accepted<R: Abort + Threads + Wait + Sync + Copy + Drop>(
+    rt: &R,
+    alloc: Global,
+    shell: &mut Shell,
+    status: u8,
+    out: &str,
+    err: &str,
+) -> bool {
+    let end = play(rt, alloc, shell, status, out, err);
+    let right = end.model.is_some() && end.kept.len() == 8;
+    let_go(end);
+    right
 }
 
 /// A child that plays the machine of this text is learned by a call of `accept` over the setup `m`, which ends so.
@@ -225,15 +253,8 @@ fn plays<R: Abort + Threads + Wait + Sync + Copy + Drop>(
     out: &str,
     err: &str,
 ) -> bool {
-    let files = files_of(rt, alloc, SETUP, &[]);
-    let mut shell = Shell::new(rt, alloc, &["accept", "m", "--extra", "0"], files);
-    let played = read_machine(alloc, machine.as_bytes()).expect(rt, "a machine");
-    let (starts, links) = (Vec::new(alloc), Vec::new(alloc));
-    shell.world.spawner = MemorySpawner::serving(alloc, played, 10_000, starts, links).expect(
-        rt, "memory",
-    );
-    let end = play(rt, alloc, &mut shell, status, out, err);
-    end.model.is_some() && end.kept.len() == 8
+    let mut shell = shell_over(rt, alloc, machine);
+    is_accepted(rt, alloc, &mut shell, status, out, err)
 }
 
 #[test]

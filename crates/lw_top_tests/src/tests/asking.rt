@@ -1,5 +1,5 @@
 //! `ask` and `compare` over memory, worked by hand, and arguments that they don't take.
-use crate::tests::cases::{Case, PLAIN, check, texts};
+use crate::tests::cases::{Case, PLAIN, check_all, texts};
 use lw_top::{ArgumentStop, ask_arguments, compare_arguments};
 use std::alloc::Global;
 use std::process::Abort;
@@ -59,9 +59,7 @@ static CASES: [Case; 7] = [
 
 #[test]
 fn commands_that_ask_and_compare(rt: HostRuntime) {
-    for case in &CASES {
-        check(&rt, rt.alloc(), case);
-    }
+    check_all(&rt, rt.alloc(), &CASES);
 }
 
 /// Whether the command of these arguments takes them.

@@ -160,6 +160,32 @@ pub fn call<R: Threads + Wait + Sync + Copy + Drop>(
     run(*rt, alloc, &shell.arguments, &mut shell.world)
 }
 
+/// Lets an end go. A proof that does is long, so no other function of these tests does.
+pub fn let_go(_end: End) {}
+
+/// The status of the top call over a shell.
+pub fn status_of<R: Threads + Wait + Sync + Copy + Drop>(
+    rt: &R,
+    alloc: Global,
+    shell: &mut Shell,
+) -> u8 {
+    let end = call(rt, alloc, shell);
+    let status = end.status;
+    let_go(end);
+    status
+}
+
+/// Whether a call ends with this status, and says that.
+pub fn says<R: Threads + Wait + Sync + Copy + Drop>(
+    rt: &R,
+    alloc: Global,
+    shell: &mut Shell,
+    status: u8,
+    said: &str,
+) -> bool {
+    status_of(rt, alloc, shell) == status && shell.world.err.taken() == said.as_bytes()
+}
+
 /// The end of a call, which has this status and puts these texts to its streams.
 pub fn play<R: Abort + Threads + Wait + Sync + Copy + Drop>(
     rt: &R,
@@ -173,6 +199,18 @@ pub fn play<R: Abort + Threads + Wait + Sync + Copy + Drop>(
     assert_eq!(rt; end.status, status);
     shell.check_streams(rt, out, err);
     end
+}
+
+/// Checks a call: its status, and what it puts to its streams.
+pub fn check_play<R: Abort + Threads + Wait + Sync + Copy + Drop>(
+    rt: &R,
+    alloc: Global,
+    shell: &mut Shell,
+    status: u8,
+    out: &str,
+    err: &str,
+) {
+    let_go(play(rt, alloc, shell, status, out, err));
 }
 
 /// The end of a case over the files of this shell.
@@ -204,10 +242,58 @@ pub fn check_over<R: Abort + Threads + Wait + Sync + Copy + Drop>(
     case: &Case,
     shell: &mut Shell,
 ) {
-    let _end = end_over(rt, alloc, case, shell);
+    let_go(end_over(rt, alloc, case, shell));
 }
 
 /// Checks a case over its own file.
 pub fn check<R: Abort + Threads + Wait + Sync + Copy + Drop>(rt: &R, alloc: Global, case: &Case) {
-    let _end = end_of(rt, alloc, case);
+    let_go(end_of(rt, alloc, case));
+}
+
+/// Checks cases, one after another, over the files of this shell.
+pub fn check_all_over<R: Abort + Threads + Wait + Sync + Copy + Drop>(
+    rt: &R,
+    alloc: Global,
+    cases: &[Case],
+    shell: &mut Shell,
+) {
+    for case in cases {
+        check_over(rt, alloc, case, shell);
+    }
+}
+
+/// Checks cases, one after another, over these files.
+pub fn check_files<R: Abort + Threads + Wait + Sync + Copy + Drop>(
+    rt: &R,
+    alloc: Global,
+    files: MemoryFiles,
+    cases: &[Case],
+) {
+    let mut shell = Shell::new(rt, alloc, &[], files);
+    check_all_over(rt, alloc, cases, &mut shell);
+}
+
+/// Checks cases, each over its own file.
+pub fn check_all<R: Abort + Threads + Wait + Sync + Copy + Drop>(
+    rt: &R,
+    alloc: Global,
+    cases: &[Case],
+) {
+    for case in cases {
+        check(rt, alloc, case);
+    }
+}
+
+/// Checks a call of these arguments over these files.
+pub fn check_call<R: Abort + Threads + Wait + Sync + Copy + Drop>(
+    rt: &R,
+    alloc: Global,
+    arguments: &[&str],
+    files: MemoryFiles,
+    status: u8,
+    out: &str,
+    err: &str,
+) {
+    let mut shell = Shell::new(rt, alloc, arguments, files);
+    check_play(rt, alloc, &mut shell, status, out, err);
 }

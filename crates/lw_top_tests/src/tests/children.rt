@@ -1,7 +1,7 @@
 //! Children in memory that are learned, worked by hand: what they say, and faults at each call.
 ghost use Rattle.std.specs.Prelude.{◌<◌};
 
-use crate::tests::cases::{Shell, call, files_of, play, sink, source, texts};
+use crate::tests::cases::{Shell, files_of, let_go, play, sink, status_of};
 use lw_json::read_machine;
 use lw_outside::{MemoryFiles, MemorySpawner};
 use lw_report::End;
@@ -154,10 +154,14 @@ fn is_left(shell: &Shell, row: &Row) -> bool {
 }
 
 /// Checks a call, and gives its end.
-fn check<R: Abort + Threads + Wait + Sync + Copy + Drop>(rt: &R, alloc: Global, row: &Row) -> End {
-    let mut shell = shell_of(rt, alloc, row);
-    let end = play(rt, alloc, &mut shell, row.status, row.out, row.err);
-    assert!(rt; is_left(&shell, row), "{}", row.err);
+fn check<R: Abort + Threads + Wait + Sync + Copy + Drop>(
+    rt: &R,
+    alloc: Global,
+    row: &Row,
+    shell: &mut Shell,
+) -> End {
+    let end = play(rt, alloc, shell, row.status, row.out, row.err);
+    assert!(rt; is_left(shell, row), "{}", row.err);
     end
 }
 
@@ -259,10 +263,33 @@ fn is_whole(end: &End, row: &Row) -> bool {
     end.model.is_some() == learned && (end.kept.len() == 0) == end.model.is_none()
 }
 
+/// Whether a call over this shell ends so.
+fn ends_whole_over<R: Abort + Threads + Wait + Sync + Copy + Drop>(
+    rt: &R,
+    alloc: Global,
+    row: &Row,
+    shell: &mut Shell,
+) -> bool {
+    let end = check(rt, alloc, row, shell);
+    let right = is_whole(&end, row);
+    let_go(end);
+    right
+}
+
+/// Whether a call ends so.
+fn ends_whole<R: Abort + Threads + Wait + Sync + Copy + Drop>(
+    rt: &R,
+    alloc: Global,
+    row: &Row,
+) -> bool {
+    let mut shell = shell_of(rt, alloc, row);
+    ends_whole_over(rt, alloc, row, &mut shell)
+}
+
 #[test]
 fn faults_at_each_place(rt: HostRuntime) {
     for row in &FAULTS {
-        assert!(rt; is_whole(&check(&rt, rt.alloc(), row), row), "{}", row.err);
+        assert!(rt; ends_whole(&rt, rt.alloc(), row), "{}", row.err);
     }
 }
 
@@ -363,10 +390,33 @@ fn keeps(end: &End, row: &Row) -> bool {
     end.model.is_some() == (row.status == 0) && (end.kept.len() == 0) == (row.status == 6)
 }
 
+/// Whether a call over this shell ends so.
+fn ends_keeping_over<R: Abort + Threads + Wait + Sync + Copy + Drop>(
+    rt: &R,
+    alloc: Global,
+    row: &Row,
+    shell: &mut Shell,
+) -> bool {
+    let end = check(rt, alloc, row, shell);
+    let right = keeps(&end, row);
+    let_go(end);
+    right
+}
+
+/// Whether a call ends so.
+fn ends_keeping<R: Abort + Threads + Wait + Sync + Copy + Drop>(
+    rt: &R,
+    alloc: Global,
+    row: &Row,
+) -> bool {
+    let mut shell = shell_of(rt, alloc, row);
+    ends_keeping_over(rt, alloc, row, &mut shell)
+}
+
 #[test]
 fn what_children_say(rt: HostRuntime) {
     for row in &SAYINGS {
-        assert!(rt; keeps(&check(&rt, rt.alloc(), row), row), "{}", row.err);
+        assert!(rt; ends_keeping(&rt, rt.alloc(), row), "{}", row.err);
     }
 }
 
@@ -384,6 +434,23 @@ fn flooding(rt: &impl Abort, alloc: Global, script: &[u8]) -> MemorySpawner {
     MemorySpawner::scripted(alloc, scripts, 10_000, none, links).expect(rt, "memory")
 }
 
+/// A learning over the setup `m` and this spawner.
+fn shell_with(rt: &impl Abort, alloc: Global, spawner: MemorySpawner) -> Shell {
+    let mut shell = Shell::new(rt, alloc, &LEARN, files_of(rt, alloc, KID, &[]));
+    shell.world.spawner = spawner;
+    shell
+}
+
+/// Whether a learning fails, and `err` takes this.
+fn takes<R: Threads + Wait + Sync + Copy + Drop>(
+    rt: &R,
+    alloc: Global,
+    shell: &mut Shell,
+    said: &[u8],
+) -> bool {
+    status_of(rt, alloc, shell) == 6 && shell.world.err.taken() == said
+}
+
 /// Whether `err` takes this of a child that sends bytes without an end, or a line of so many.
 fn says<R: Abort + Threads + Wait + Sync + Copy + Drop>(
     rt: &R,
@@ -391,10 +458,8 @@ fn says<R: Abort + Threads + Wait + Sync + Copy + Drop>(
     script: &[u8],
     said: &[u8],
 ) -> bool {
-    let mut shell = Shell::new(rt, alloc, &LEARN, files_of(rt, alloc, KID, &[]));
-    shell.world.spawner = flooding(rt, alloc, script);
-    let end = call(rt, alloc, &mut shell);
-    end.status == 6 && shell.world.err.taken() == said
+    let mut shell = shell_with(rt, alloc, flooding(rt, alloc, script));
+    takes(rt, alloc, &mut shell, said)
 }
 
 /// The text about a bad line of so many times `x`.

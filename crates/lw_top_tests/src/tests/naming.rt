@@ -1,5 +1,5 @@
 //! Children in memory whose outputs aren't declared: the lock controller, and rings of as many outputs as may be named and one more.
-use crate::tests::cases::{Shell, files_of, play, stands};
+use crate::tests::cases::{Shell, check_play, files_of, stands};
 use lw_json::read_machine;
 use lw_outside::MemorySpawner;
 use std::alloc::Global;
@@ -54,7 +54,7 @@ fn check_lock<R: Abort + Threads + Wait + Sync + Copy + Drop>(
 ) {
     let mut shell = shell_over(rt, alloc, &["learn", "m"], setup, LOCK);
     let said = "learned: states 12, refinements 0, extra 1, answers 636\n";
-    let _end = play(rt, alloc, &mut shell, 0, out, said);
+    check_play(rt, alloc, &mut shell, 0, out, said);
 }
 
 #[test]
@@ -96,6 +96,11 @@ fn ring(rt: &impl Abort, alloc: Global, last: u16) -> String {
     text
 }
 
+/// Whether the file `h` has this text.
+fn has_written(shell: &Shell, text: &str) -> bool {
+    stands(&shell.world.files, "h", text)
+}
+
 /// Whether a learning of a ring ends with this status and this text on `err`, and writes this model.
 fn ends_with<R: Abort + Threads + Wait + Sync + Copy + Drop>(
     rt: &R,
@@ -107,8 +112,8 @@ fn ends_with<R: Abort + Threads + Wait + Sync + Copy + Drop>(
 ) -> bool {
     let arguments = ["learn", "m", "--model", "h"];
     let mut shell = shell_over(rt, alloc, &arguments, COIN, machine);
-    let _end = play(rt, alloc, &mut shell, status, "", err);
-    stands(&shell.world.files, "h", machine) == written
+    check_play(rt, alloc, &mut shell, status, "", err);
+    has_written(&shell, machine) == written
 }
 
 #[test]

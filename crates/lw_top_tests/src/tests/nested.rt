@@ -1,5 +1,5 @@
 //! A file of brackets alone, nested deeper than any file of the program, in each of its roles.
-use crate::tests::cases::{ONE, Shell, play};
+use crate::tests::cases::{ONE, check_call};
 use lw_outside::MemoryFiles;
 use std::alloc::Global;
 use std::process::Abort;
@@ -48,8 +48,7 @@ fn check<R: Abort + Threads + Wait + Sync + Copy + Drop>(
     arguments: &[&str],
     err: &str,
 ) {
-    let mut shell = Shell::new(rt, alloc, arguments, files(rt, alloc));
-    let _end = play(rt, alloc, &mut shell, 3, "", err);
+    check_call(rt, alloc, arguments, files(rt, alloc), 3, "", err);
 }
 
 #[test]

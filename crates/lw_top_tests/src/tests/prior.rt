@@ -1,5 +1,5 @@
 //! Learnings behind earlier answers, worked by hand.
-use crate::tests::cases::{Shell, call, play, stands};
+use crate::tests::cases::{Shell, check_call, stands, status_of};
 use lw_outside::MemoryFiles;
 use std::alloc::Global;
 use std::process::Abort;
@@ -119,8 +119,8 @@ fn files(rt: &impl Abort, alloc: Global, prior: &str) -> MemoryFiles {
 
 /// Checks what comes of earlier answers.
 fn check<R: Abort + Threads + Wait + Sync + Copy + Drop>(rt: &R, alloc: Global, row: &Row) {
-    let mut shell = Shell::new(rt, alloc, &LEARN, files(rt, alloc, row.prior));
-    let _end = play(rt, alloc, &mut shell, row.status, row.out, row.err);
+    let files = files(rt, alloc, row.prior);
+    check_call(rt, alloc, &LEARN, files, row.status, row.out, row.err);
 }
 
 #[test]
@@ -133,8 +133,7 @@ fn earlier_answers(rt: HostRuntime) {
 /// Whether an earlier answer is written before those of the learning.
 fn is_written_first<R: Abort + Threads + Wait + Sync + Copy + Drop>(rt: &R, alloc: Global) -> bool {
     let mut shell = Shell::new(rt, alloc, &WRITE, files(rt, alloc, TRUE));
-    let end = call(rt, alloc, &mut shell);
-    end.status == 0 && stands(&shell.world.files, "k", KEPT)
+    status_of(rt, alloc, &mut shell) == 0 && stands(&shell.world.files, "k", KEPT)
 }
 
 #[test]

@@ -1,5 +1,7 @@
 //! Machines that are learned, worked by hand: at one worker, at two and at sixteen.
-use crate::tests::cases::{Case, LEARN, PLAIN, Shell, call, check, end_of, files_of, play};
+use crate::tests::cases::{
+    Case, LEARN, PLAIN, Shell, call, check_all, check_call, end_of, files_of, let_go,
+};
 use lw_outside::MemorySink;
 use lw_report::End;
 use lw_rounds::Learner;
@@ -84,9 +86,7 @@ static LEARNED: [Case; 8] = [
 
 #[test]
 fn models_that_are_learned(rt: HostRuntime) {
-    for case in &LEARNED {
-        check(&rt, rt.alloc(), case);
-    }
+    check_all(&rt, rt.alloc(), &LEARNED);
 }
 
 /// Whether the recorded answers are to words of these numbers of letters, in this order.
@@ -104,10 +104,22 @@ fn is_by_table(end: &End, letters: &[usize]) -> bool {
     by_table && end.refinements == 1 && are_long(&end.kept, letters)
 }
 
+/// Whether a case ends so.
+fn ends_by_table<R: Abort + Threads + Wait + Sync + Copy + Drop>(
+    rt: &R,
+    alloc: Global,
+    case: &Case,
+    letters: &[usize],
+) -> bool {
+    let end = end_of(rt, alloc, case);
+    let right = is_by_table(&end, letters);
+    let_go(end);
+    right
+}
+
 #[test]
 fn the_words_that_find_a_counter(rt: HostRuntime) {
-    let end = end_of(&rt, rt.alloc(), &LEARNED[3]);
-    assert!(rt; is_by_table(&end, &[2, 3, 4, 5, 7]));
+    assert!(rt; ends_by_table(&rt, rt.alloc(), &LEARNED[3], &[2, 3, 4, 5, 7]));
 }
 
 /// The same call with a tree.
@@ -125,15 +137,39 @@ fn is_by_tree(end: &End, letters: &[usize]) -> bool {
     by_tree && end.refinements == 1 && are_long(&end.kept, letters)
 }
 
+/// Whether a case ends so.
+fn ends_by_tree<R: Abort + Threads + Wait + Sync + Copy + Drop>(
+    rt: &R,
+    alloc: Global,
+    case: &Case,
+    letters: &[usize],
+) -> bool {
+    let end = end_of(rt, alloc, case);
+    let right = is_by_tree(&end, letters);
+    let_go(end);
+    right
+}
+
 #[test]
 fn the_words_that_find_a_counter_by_a_tree(rt: HostRuntime) {
-    let end = end_of(&rt, rt.alloc(), &COUNTER_BY_TREE);
-    assert!(rt; is_by_tree(&end, &[1, 3, 4, 5, 7]));
+    assert!(rt; ends_by_tree(&rt, rt.alloc(), &COUNTER_BY_TREE, &[1, 3, 4, 5, 7]));
 }
 
 /// Whether three refinements found the lock.
 fn is_lock(end: &End, out: &MemorySink) -> bool {
     end.status == 0 && end.refinements == 3 && out.taken() == CODE_MODEL.as_bytes()
+}
+
+/// Whether a call finds the lock.
+fn finds_lock<R: Threads + Wait + Sync + Copy + Drop>(
+    rt: &R,
+    alloc: Global,
+    shell: &mut Shell,
+) -> bool {
+    let end = call(rt, alloc, shell);
+    let right = is_lock(&end, &shell.world.out);
+    let_go(end);
+    right
 }
 
 /// Whether so many workers find the lock.
@@ -152,8 +188,7 @@ fn find_lock<R: Abort + Threads + Wait + Sync + Copy + Drop>(
         workers,
     ];
     let mut shell = Shell::new(rt, alloc, &arguments, files_of(rt, alloc, CODE, &[]));
-    let end = call(rt, alloc, &mut shell);
-    is_lock(&end, &shell.world.out)
+    finds_lock(rt, alloc, &mut shell)
 }
 
 #[test]
@@ -202,8 +237,8 @@ fn check_at<R: Abort + Threads + Wait + Sync + Copy + Drop>(
     err: &str,
 ) {
     let arguments = ["learn", "--table", "m", "--extra", extra];
-    let mut shell = Shell::new(rt, alloc, &arguments, files_of(rt, alloc, table, &[]));
-    let _end = play(rt, alloc, &mut shell, status, out, err);
+    let files = files_of(rt, alloc, table, &[]);
+    check_call(rt, alloc, &arguments, files, status, out, err);
 }
 
 #[test]

@@ -1,5 +1,5 @@
 //! A counter modulo three that is served, worked by hand, and what is asked of other commands.
-use crate::tests::cases::{Case, PLAIN, Shell, call, check, files_of, source, texts};
+use crate::tests::cases::{Case, PLAIN, Shell, check_all, files_of, source, status_of, texts};
 use lw_outside::{MemorySource, Source};
 use lw_top::serve_arguments;
 use std::alloc::Global;
@@ -78,9 +78,7 @@ static SERVINGS: [Case; 9] = [
 
 #[test]
 fn a_counter_that_is_served(rt: HostRuntime) {
-    for case in &SERVINGS {
-        check(&rt, rt.alloc(), case);
-    }
+    check_all(&rt, rt.alloc(), &SERVINGS);
 }
 
 /// The model file that `serve` takes the arguments for, if it takes them.
@@ -123,7 +121,7 @@ fn leaves_input<R: Abort + Threads + Wait + Sync + Copy + Drop>(
 ) -> bool {
     let mut shell = Shell::new(rt, alloc, arguments, files_of(rt, alloc, COUNTER, &[]));
     shell.world.input = source(rt, alloc, "reset\n", &[]);
-    let _end = call(rt, alloc, &mut shell);
+    let _status = status_of(rt, alloc, &mut shell);
     is_unread(&mut shell.world.input)
 }
 

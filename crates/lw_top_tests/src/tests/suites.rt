@@ -1,5 +1,5 @@
 //! Machines of three and of five states: their suites by each method, as `learn` asks them and `check` wants them.
-use crate::tests::cases::{Case, PLAIN, Shell, check, check_over};
+use crate::tests::cases::{Case, PLAIN, check_all, check_files};
 use lw_outside::MemoryFiles;
 use std::alloc::Global;
 use std::process::Abort;
@@ -74,9 +74,7 @@ static LEARNED: [Case; 7] = [
 
 #[test]
 fn suites_that_are_asked(rt: HostRuntime) {
-    for case in &LEARNED {
-        check(&rt, rt.alloc(), case);
-    }
+    check_all(&rt, rt.alloc(), &LEARNED);
 }
 
 /// The files `m` and `k` of these texts.
@@ -136,17 +134,11 @@ static MISSING: [Case; 2] = [
 #[test]
 fn answers_that_are_enough_by_one_method_alone(rt: HostRuntime) {
     let files = two_files(&rt, rt.alloc(), TRI, IDENTIFIED);
-    let mut shell = Shell::new(&rt, rt.alloc(), &[], files);
-    for case in &IDENTIFYING {
-        check_over(&rt, rt.alloc(), case, &mut shell);
-    }
+    check_files(&rt, rt.alloc(), files, &IDENTIFYING);
 }
 
 #[test]
 fn answers_of_which_one_is_missing(rt: HostRuntime) {
     let files = two_files(&rt, rt.alloc(), TRI, WITHOUT_LAST);
-    let mut shell = Shell::new(&rt, rt.alloc(), &[], files);
-    for case in &MISSING {
-        check_over(&rt, rt.alloc(), case, &mut shell);
-    }
+    check_files(&rt, rt.alloc(), files, &MISSING);
 }

@@ -1,5 +1,5 @@
 //! Trials: small ones worked by hand, and greater ones that many workers make as one does.
-use crate::tests::cases::{Case, PLAIN, Shell, call, check, files_of};
+use crate::tests::cases::{Case, PLAIN, Shell, call, check_all, files_of, let_go, status_of};
 use lw_outside::MemorySink;
 use lw_report::End;
 use std::alloc::Global;
@@ -32,9 +32,7 @@ static SMALL: [Case; 3] = [
 
 #[test]
 fn small_trials(rt: HostRuntime) {
-    for case in &SMALL {
-        check(&rt, rt.alloc(), case);
-    }
+    check_all(&rt, rt.alloc(), &SMALL);
 }
 
 /// The shell of a trial, over an empty file.
@@ -42,12 +40,22 @@ fn shell_of(rt: &impl Abort, alloc: Global, arguments: &[&str]) -> Shell {
     Shell::new(rt, alloc, arguments, files_of(rt, alloc, "", &[]))
 }
 
-/// What a trial of two hundred states with so many workers, which succeeds, leaves.
+/// What a trial, which succeeds, tells.
+fn told<R: Abort + Threads + Wait + Sync + Copy + Drop>(
+    rt: &R,
+    alloc: Global,
+    shell: &mut Shell,
+) -> Vec<u8> {
+    assert!(rt; status_of(rt, alloc, shell) == 0);
+    Vec::from_slice(alloc, shell.world.out.taken()).expect(rt, "memory")
+}
+
+/// What a trial of two hundred states with so many workers, which succeeds, tells.
 fn two_hundred<R: Abort + Threads + Wait + Sync + Copy + Drop>(
     rt: &R,
     alloc: Global,
     workers: &str,
-) -> Shell {
+) -> Vec<u8> {
     let arguments = [
         "trial",
         "--states=200",
@@ -57,8 +65,7 @@ fn two_hundred<R: Abort + Threads + Wait + Sync + Copy + Drop>(
         workers,
     ];
     let mut shell = shell_of(rt, alloc, &arguments);
-    assert!(rt; call(rt, alloc, &mut shell).status == 0);
-    shell
+    told(rt, alloc, &mut shell)
 }
 
 #[test]
@@ -66,10 +73,7 @@ fn two_hundred_states_at_any_number_of_workers(rt: HostRuntime) {
     let one = two_hundred(&rt, rt.alloc(), "1");
     for workers in ["2", "8"] {
         let other = two_hundred(&rt, rt.alloc(), workers);
-        assert!(rt;
-            other.world.out.taken() == one.world.out.taken(),
-            "{workers} workers"
-        );
+        assert!(rt; other.as_slice() == one.as_slice(), "{workers} workers");
     }
 }
 
@@ -94,7 +98,7 @@ fn finds<R: Abort + Threads + Wait + Sync + Copy + Drop>(
         learner,
     ];
     let mut shell = shell_of(rt, alloc, &arguments);
-    let _end = call(rt, alloc, &mut shell);
+    let _status = status_of(rt, alloc, &mut shell);
     is_found(&shell.world.out)
 }
 
@@ -116,6 +120,18 @@ fn has_two_instances(end: &End) -> bool {
     first && later
 }
 
+/// Whether a trial has answers of two instances.
+fn shares<R: Threads + Wait + Sync + Copy + Drop>(
+    rt: &R,
+    alloc: Global,
+    shell: &mut Shell,
+) -> bool {
+    let end = call(rt, alloc, shell);
+    let right = has_two_instances(&end);
+    let_go(end);
+    right
+}
+
 /// Whether a trial with eight workers has answers of two instances.
 fn is_shared<R: Abort + Threads + Wait + Sync + Copy + Drop>(rt: &R, alloc: Global) -> bool {
     let arguments = [
@@ -126,8 +142,7 @@ fn is_shared<R: Abort + Threads + Wait + Sync + Copy + Drop>(rt: &R, alloc: Glob
         "--workers=8",
     ];
     let mut shell = shell_of(rt, alloc, &arguments);
-    let end = call(rt, alloc, &mut shell);
-    has_two_instances(&end)
+    shares(rt, alloc, &mut shell)
 }
 
 /// Whether one of a hundred such trials has.

@@ -3,9 +3,12 @@ ghost use Rattle.std.specs.Prelude.{◌≡◌, ◌<◌, ◌≤◌, length, map, 
 ghost use Rattle.std.specs.List.{All};
 ghost use Rattle.lw_outside.specs.Links.{LinkState};
 
-use crate::tests::cases::{Shell, files_of};
+use crate::tests::cases::{Shell, files_of, let_go};
 use http_server::Log;
-use lw_outside::{Failed, Link, Spawner, StartFailure, StartStop, World};
+use lw_log::MemoryLog;
+use lw_outside::{
+    Failed, Link, MemoryFiles, MemorySink, MemorySource, Spawner, StartFailure, StartStop, World,
+};
 use lw_top::run;
 use std::alloc::Global;
 use std::process::Abort;
@@ -210,6 +213,29 @@ const LEARNED: &str = "learned: states 1, refinements 0, extra 0, answers 4\n";
 
 const LEARN: [&str; 6] = ["learn", "m", "--workers", "2", "--extra", "0"];
 
+/// A world in memory whose children are such ones.
+type MeetingWorld = World<
+    MemoryFiles,
+    MeetingSpawner,
+    MemorySource,
+    MemorySink,
+    MemorySink,
+    lw_log::Log<MemoryLog>,
+>;
+
+/// The status of the top call over such children.
+fn status_over<R: Threads + Wait + Sync + Copy + Drop>(
+    rt: &R,
+    alloc: Global,
+    arguments: &[String],
+    world: &mut MeetingWorld,
+) -> u8 {
+    let end = run(*rt, alloc, arguments, world);
+    let status = end.status;
+    let_go(end);
+    status
+}
+
 /// The status of the top call over a shell, with two such children in place of its own.
 fn meet<R: Abort + Threads + Wait + Sync + Copy + Drop>(rt: &R, alloc: Global, shell: Shell) -> u8 {
     let Shell { arguments, world } = shell;
@@ -221,10 +247,10 @@ fn meet<R: Abort + Threads + Wait + Sync + Copy + Drop>(rt: &R, alloc: Global, s
         err: world.err,
         log: world.log,
     };
-    let end = run(*rt, alloc, &arguments, &mut world);
+    let status = status_over(rt, alloc, &arguments, &mut world);
     assert_eq!(rt; world.out.taken(), MODEL.as_bytes());
     assert_eq!(rt; world.err.taken(), LEARNED.as_bytes());
-    end.status
+    status
 }
 
 #[test]

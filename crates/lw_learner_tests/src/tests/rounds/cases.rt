@@ -125,7 +125,10 @@ fn machine_of(rt: &impl Abort, alloc: Global, outputs: u16, rows: Rows) -> Mealy
         let copy = Vec::from_slice(alloc, row).expect(rt, "memory");
         copies.push(copy).expect(rt, "memory");
     }
-    let inputs = rows.first().map_or(0, |row| row.len());
+    let inputs = match rows.first() {
+        Some(row) => row.len(),
+        None => 0,
+    };
     let inputs = u16::try_from(inputs).expect(rt, "a number of letters");
     assert!(rt; 1 <= inputs && inputs <= 64 && 1 <= outputs && outputs <= 4096);
     Mealy::new(alloc, inputs, outputs, copies).expect(rt, "a machine")
@@ -196,8 +199,15 @@ fn play(rt: &impl Abort, alloc: Global, case: &Case) -> Came {
 
 /// Whether words have just these lengths, in this order.
 fn are_long(words: &[Word], lengths: &[usize]) -> bool {
-    let mut each = words.iter().zip(lengths.iter());
-    words.len() == lengths.len() && each.all(|(word, length)| word.len() == *length)
+    if words.len() != lengths.len() {
+        return false;
+    }
+    for number in 0..words.len() {
+        if words[number].len() != lengths[number] {
+            return false;
+        }
+    }
+    true
 }
 
 /// Whether a model is meant.
@@ -247,18 +257,43 @@ fn asked_long(oracle: &Recording, number: usize, lengths: &[usize]) -> bool {
 
 /// Whether the batches are those of a case.
 fn asks_so(oracle: &Recording, case: &Case) -> bool {
-    let mut lengths = case.lengths.iter();
-    let mut words = case.words.iter();
     oracle.batches().len() == case.batches
-        && lengths.all(|(number, lengths)| asked_long(oracle, *number, lengths))
-        && words.all(|(number, words)| oracle.asked(*number, words))
+        && all_asked_long(oracle, case.lengths)
+        && all_asked(oracle, case.words)
+}
+
+/// Whether the batches with these numbers have words of these lengths.
+fn all_asked_long(oracle: &Recording, batches: &[(usize, &[usize])]) -> bool {
+    for (number, lengths) in batches {
+        if !asked_long(oracle, *number, lengths) {
+            return false;
+        }
+    }
+    true
+}
+
+/// Whether the batches with these numbers have these words.
+fn all_asked(oracle: &Recording, batches: &[(usize, &[&[u16]])]) -> bool {
+    for (number, words) in batches {
+        if !oracle.asked(*number, words) {
+            return false;
+        }
+    }
+    true
 }
 
 /// Whether the batches have just these numbers of words, where a case tells them.
 fn sizes_so(oracle: &Recording, sizes: &[usize]) -> bool {
-    let mut each = oracle.batches().iter().zip(sizes.iter());
-    let right = oracle.batches().len() == sizes.len();
-    sizes.is_empty() || (right && each.all(|(batch, size)| batch.len() == *size))
+    let batches = oracle.batches();
+    if sizes.is_empty() || batches.len() != sizes.len() {
+        return sizes.is_empty();
+    }
+    for number in 0..batches.len() {
+        if batches[number].len() != sizes[number] {
+            return false;
+        }
+    }
+    true
 }
 
 /// Whether a learner is a tree whose discriminators have just these lengths, and none is temporary.

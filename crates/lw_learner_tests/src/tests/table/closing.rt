@@ -2,7 +2,8 @@
 ghost use Rattle.std.specs.Prelude.{◌<◌, IfOk, length};
 ghost use Rattle.lw_table.specs.Table.{IsClosedTable};
 
-use super::{are, has};
+use super::has;
+use crate::tests::{Batch, are, has_settled};
 use lw_cache::{AskStop, GrowStop};
 use lw_mealy::Mealy;
 use lw_table::ObservationTable;
@@ -113,26 +114,12 @@ fn machine(rt: &impl Abort, alloc: Global, asked: Asked) -> Mealy {
     }
 }
 
-/// A batch by its number, and its words in their order.
-struct Batch {
-    number: usize,
-    words: &'static [&'static [u16]],
-}
-
 /// How many batches were asked, and the words of some; the access words and the suffixes.
 struct Left {
     count: usize,
     batches: &'static [Batch],
     access: &'static [&'static [u16]],
     suffixes: &'static [&'static [u16]],
-}
-
-/// Whether an oracle settled so many batches, and these among them.
-fn has_settled(oracle: &Recording, count: usize, batches: &[Batch]) -> bool {
-    let are_asked = batches
-        .iter()
-        .all(|batch| oracle.asked(batch.number, batch.words));
-    oracle.batches().len() == count && are_asked
 }
 
 /// Whether that is left.

@@ -4,7 +4,8 @@ ghost use Rattle.std.specs.List.{All};
 ghost use Rattle.lw_words.specs.Word.{IsWord};
 ghost use Rattle.lw_children.specs.Crews.{first_naming};
 
-use super::{command, names, speakers};
+use super::{command, speakers};
+use crate::tests::{is_line, names};
 use lw_cache::{AskStop, Cache};
 use lw_children::learn_children;
 use lw_chunks::Method;
@@ -272,14 +273,6 @@ fn has_stopped(ended: &LearningOutcome, number: u32, want: Ending) -> bool {
     match &ended.learned {
         Err(stop) => stops_so(stop, number, want) && ended.kept.len() == 0,
         Ok(_) => false,
-    }
-}
-
-fn is_line(line: &Option<Line>, want: Option<&[u8]>) -> bool {
-    match (line, want) {
-        (Some(line), Some(bytes)) => line.as_slice() == bytes,
-        (None, None) => true,
-        _ => false,
     }
 }
 

@@ -216,8 +216,7 @@ fn fault_of(rt: &impl Abort, alloc: Global, text: &str) -> JsonFault {
 fn the_first_fault_of_an_answers_file_is_told(rt: HostRuntime) {
     let alloc = rt.alloc();
     for (text, first) in &NO_ANSWERS {
-        let fault = fault_of(&rt, alloc, text);
-        assert_eq!(rt; fault, *first, "{text}");
+        assert!(rt; fault_of(&rt, alloc, text) == *first, "{text}");
     }
 }
 

@@ -1,6 +1,7 @@
 //! Machine files: how they are read and written, and the first fault of bytes that are none.
 
-use lw_json::{Field, JsonFault, machine_text, read_machine};
+use crate::tests::{machine, written};
+use lw_json::{Field, JsonFault, read_machine};
 use lw_mealy::MealyFault;
 use lw_words::NamesFault;
 use std::alloc::Global;
@@ -217,13 +218,16 @@ static NO_MACHINES: [(&str, JsonFault); 54] = [
 
 /// What is written of the machine that is read.
 fn rewritten(rt: &impl Abort, alloc: Global, bytes: &[u8]) -> Vec<u8> {
-    let machine = read_machine(alloc, bytes).expect(rt, "a machine");
-    machine_text(alloc, &machine).expect(rt, "memory")
+    written(rt, alloc, &machine(rt, alloc, bytes))
 }
 
 /// Whether the machine of a text is written so.
 fn is_written_so(rt: &impl Abort, alloc: Global, text: &str, expected: &str) -> bool {
-    rewritten(rt, alloc, text.as_bytes()).as_slice() == expected.as_bytes()
+    is_rewritten_so(rt, alloc, text.as_bytes(), expected)
+}
+
+fn is_rewritten_so(rt: &impl Abort, alloc: Global, bytes: &[u8], expected: &str) -> bool {
+    rewritten(rt, alloc, bytes).as_slice() == expected.as_bytes()
 }
 
 #[test]
@@ -237,10 +241,9 @@ fn a_machine_is_read_and_written(rt: HostRuntime) {
 #[test]
 fn a_written_machine_is_read_as_the_same(rt: HostRuntime) {
     let alloc = rt.alloc();
-    let written = rewritten(&rt, alloc, THREE.as_bytes());
-    assert!(rt; written.as_slice() == THREE.as_bytes());
-    let twice = rewritten(&rt, alloc, &written);
-    assert!(rt; twice.as_slice() == THREE.as_bytes());
+    let once = rewritten(&rt, alloc, THREE.as_bytes());
+    assert!(rt; once.as_slice() == THREE.as_bytes());
+    assert!(rt; is_rewritten_so(&rt, alloc, &once, THREE));
 }
 
 /// The first fault of bytes, which are no machine file.
@@ -255,8 +258,7 @@ pub fn fault_of(rt: &impl Abort, alloc: Global, bytes: &[u8]) -> JsonFault {
 fn the_first_fault_of_a_machine_file_is_told(rt: HostRuntime) {
     let alloc = rt.alloc();
     for (text, first) in &NO_MACHINES {
-        let fault = fault_of(&rt, alloc, text.as_bytes());
-        assert_eq!(rt; fault, *first, "{text}");
+        assert!(rt; fault_of(&rt, alloc, text.as_bytes()) == *first, "{text}");
     }
     assert!(rt; fault_of(&rt, alloc, b"\xff{}") == JsonFault::NotJson);
 }

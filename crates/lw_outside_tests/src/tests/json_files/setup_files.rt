@@ -108,8 +108,7 @@ fn fault_of(rt: &impl Abort, alloc: Global, text: &str) -> JsonFault {
 fn the_first_fault_of_a_setup_file_is_told(rt: HostRuntime) {
     let alloc = rt.alloc();
     for (text, first) in &NO_SETUPS {
-        let fault = fault_of(&rt, alloc, text);
-        assert_eq!(rt; fault, *first, "{text}");
+        assert!(rt; fault_of(&rt, alloc, text) == *first, "{text}");
     }
 }
 

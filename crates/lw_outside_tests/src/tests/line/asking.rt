@@ -2,9 +2,10 @@
 ghost use Rattle.std.specs.Prelude.{◌≡◌, ◌<◌, None};
 
 use super::scripted::{Script, ScriptedLink};
+use crate::tests::names;
 use lw_line::LineSul;
 use lw_sul::Sul;
-use lw_words::{Names, SulStop};
+use lw_words::SulStop;
 use std::alloc::Global;
 use std::process::Abort;
 
@@ -19,15 +20,6 @@ pub enum Ending {
     Bad(&'static [u8]),
     Gone,
     Failed,
-}
-
-pub fn names(rt: &impl Abort, alloc: Global, list: &[&str]) -> Names {
-    let mut texts = Vec::new(alloc);
-    for name in list {
-        let text = String::from_str(alloc, name).expect(rt, "memory");
-        texts.push(text).expect(rt, "memory");
-    }
-    Names::from_list(alloc, &texts).expect(rt, "names")
 }
 
 /// A system with the letter `t` and the outputs `0` and `1`.

@@ -2,12 +2,11 @@
 ghost use Rattle.std.specs.Prelude.{◌≡◌, None, true};
 ghost use Rattle.lw_outside.specs.Links.{IsUntouched};
 
-use super::asking::names;
 use super::session::{speaker, started};
+use crate::tests::{is_line, names};
 use lw_line::LineSul;
 use lw_outside::{Link, Spawner};
 use lw_sul::Sul;
-use lw_words::Line;
 use std::alloc::Global;
 use std::process::Abort;
 
@@ -142,14 +141,6 @@ fn run_all<S: Sul>(sul: &mut S, runs: &[&[u16]])
         if !goes_on(sul, letters) {
             return;
         }
-    }
-}
-
-fn is_line(line: &Option<Line>, want: Option<&[u8]>) -> bool {
-    match (line, want) {
-        (Some(line), Some(bytes)) => line.as_slice() == bytes,
-        (None, None) => true,
-        _ => false,
     }
 }
 

@@ -1,8 +1,8 @@
 //! Words that are asked over links in memory.
 ghost use Rattle.lw_outside.specs.Links.{IsUntouched};
 
-use super::asking::names;
 use super::streams::counter;
+use crate::tests::{names, scripts};
 use lw_line::LineSul;
 use lw_outside::{Link, MemorySpawner, Spawner};
 use lw_sul::Session;
@@ -55,11 +55,8 @@ fn players(rt: &impl Abort, alloc: Global) -> MemorySpawner {
 
 /// A spawner of one child that says this and then ends.
 pub fn speaker(rt: &impl Abort, alloc: Global, text: &[u8]) -> MemorySpawner {
-    let script = Vec::from_slice(alloc, text).expect(rt, "memory");
-    let scripts = vec![in alloc; script].expect(rt, "memory");
-    MemorySpawner::scripted(alloc, scripts, 512, Vec::new(alloc), Vec::new(alloc)).expect(
-        rt, "memory",
-    )
+    let one = scripts(rt, alloc, &[text]);
+    MemorySpawner::scripted(alloc, one, 512, Vec::new(alloc), Vec::new(alloc)).expect(rt, "memory")
 }
 
 #[test]

@@ -1,5 +1,6 @@
 //! Serving over streams in memory, streams that fail, and streams that tell the order of their calls.
-use lw_json::{Machine, read_machine};
+use crate::tests::{machine, sink_of, source_of};
+use lw_json::Machine;
 use lw_line::{ServeFault, Served, serve};
 use lw_outside::{Failed, MemorySink, MemorySource, Sink, Source};
 use std::alloc::Global;
@@ -10,7 +11,7 @@ static COUNTER: &[u8] =
     br#"{"inputs":["t"],"outputs":["0","1"],"states":[[[1,"0"]],[[2,"0"]],[[0,"1"]]]}"#;
 
 pub fn counter(rt: &impl Abort, alloc: Global) -> Machine {
-    read_machine(alloc, COUNTER).expect(rt, "a machine")
+    machine(rt, alloc, COUNTER)
 }
 
 /// Calls that are to fail, and how many bytes each other one takes or gives at most.
@@ -19,25 +20,6 @@ struct Plans<'a> {
     source: &'a [u64],
     sink: &'a [u64],
     piece: usize,
-}
-
-fn source_of(
-    rt: &impl Abort,
-    alloc: Global,
-    input: &[u8],
-    piece: usize,
-    plan: &[u64],
-) -> MemorySource {
-    assert!(rt; piece > 0);
-    let bytes = Vec::from_slice(alloc, input).expect(rt, "memory");
-    let plan = Vec::from_slice(alloc, plan).expect(rt, "memory");
-    MemorySource::new(bytes, piece, plan).expect(rt, "memory")
-}
-
-fn sink_of(rt: &impl Abort, alloc: Global, piece: usize, plan: &[u64]) -> MemorySink {
-    assert!(rt; piece > 0);
-    let plan = Vec::from_slice(alloc, plan).expect(rt, "memory");
-    MemorySink::new(alloc, 256, piece, plan).expect(rt, "memory")
 }
 
 fn same_end(end: &Result<Served, ServeFault>, want: &Result<Served, ServeFault>) -> bool {
@@ -71,7 +53,7 @@ fn serves_with(
     want: &Result<Served, ServeFault>,
 ) -> bool {
     let mut source = source_of(rt, alloc, input, plans.piece, plans.source);
-    let mut sink = sink_of(rt, alloc, plans.piece, plans.sink);
+    let mut sink = sink_of(rt, alloc, 256, plans.piece, plans.sink);
     serves_on(&mut source, &mut sink, machine, answers, want)
 }
 

@@ -2,6 +2,7 @@
 ghost use Rattle.std.specs.Prelude.{◌≡◌, ◌+◌, IfOk, OnOk};
 
 use super::player::ring_of_three;
+use crate::tests::scripts;
 use lw_outside::{Link, MemoryLink, MemorySpawner, Spawner, StartStop};
 use std::alloc::Global;
 use std::process::Abort;
@@ -82,8 +83,9 @@ pub(super) fn starts<P: Spawner>(
 
 /// The one plan of this list.
 fn only(rt: &impl Abort, alloc: Global, plan: &[u64]) -> Vec<Vec<u64>> {
-    let mut plans = Vec::with_capacity(alloc, 1).expect(rt, "memory");
-    plans.push_reserved(plan.to_vec(alloc).expect(rt, "memory"));
+    let mut plans = Vec::new(alloc);
+    let plan = Vec::from_slice(alloc, plan).expect(rt, "memory");
+    plans.push(plan).expect(rt, "memory");
     plans
 }
 
@@ -96,18 +98,11 @@ fn served(rt: &impl Abort, alloc: Global, room: usize, plan: &[u64]) -> MemoryLi
     starts(rt, alloc, &mut spawner, "ring").expect(rt, "a link")
 }
 
-/// The one script of this list.
-fn script(rt: &impl Abort, alloc: Global, text: &str) -> Vec<Vec<u8>> {
-    let mut scripts = Vec::with_capacity(alloc, 1).expect(rt, "memory");
-    scripts.push_reserved(Vec::from_slice(alloc, text.as_bytes()).expect(rt, "memory"));
-    scripts
-}
-
 /// A link to a child that says this text, with this room, of which these calls fail.
 fn scripted(rt: &impl Abort, alloc: Global, text: &str, room: usize, plan: &[u64]) -> MemoryLink {
     let plans = only(rt, alloc, plan);
-    let scripts = script(rt, alloc, text);
-    let scripted = MemorySpawner::scripted(alloc, scripts, room, Vec::new(alloc), plans);
+    let one = scripts(rt, alloc, &[text.as_bytes()]);
+    let scripted = MemorySpawner::scripted(alloc, one, room, Vec::new(alloc), plans);
     let mut spawner = scripted.expect(rt, "memory");
     starts(rt, alloc, &mut spawner, "script").expect(rt, "a link")
 }

@@ -1,5 +1,6 @@
 //! A child that plays a machine, line by line.
-use lw_json::{Machine, read_machine};
+use crate::tests::machine;
+use lw_json::Machine;
 use lw_outside::{AnswerLine, Player, Reply};
 use std::alloc::Global;
 use std::process::Abort;
@@ -7,7 +8,7 @@ use std::process::Abort;
 /// A machine of three states in a ring, of which the last says 1.
 pub(super) fn ring_of_three(rt: &impl Abort, alloc: Global) -> Machine {
     let text = br#"{"inputs":["t"],"outputs":["0","1"],"states":[[[1,"0"]],[[2,"0"]],[[0,"1"]]]}"#;
-    read_machine(alloc, text).expect(rt, "a machine")
+    machine(rt, alloc, text)
 }
 
 static TURNS: [(&str, Reply); 10] = [

@@ -3,6 +3,7 @@ ghost use Rattle.std.specs.Prelude.{◌≡◌, []};
 
 use super::links::{sends, starts, takes};
 use super::player::ring_of_three;
+use crate::tests::scripts;
 use lw_outside::{Link, MemorySpawner, Spawner, StartStop, Transcript};
 use std::alloc::Global;
 use std::process::Abort;
@@ -18,11 +19,9 @@ fn served(rt: &impl Abort, alloc: Global, plan: &[u64]) -> MemorySpawner {
 fn scripted(rt: &impl Abort, alloc: Global) -> MemorySpawner
     ensures { result.retired ≡ [] }
 {
-    let mut scripts = Vec::with_capacity(alloc, 2).expect(rt, "memory");
-    scripts.push_reserved(Vec::from_slice(alloc, b"a").expect(rt, "memory"));
-    scripts.push_reserved(Vec::from_slice(alloc, b"b").expect(rt, "memory"));
+    let two = scripts(rt, alloc, &[b"a", b"b"]);
     let (starts, plans) = (Vec::new(alloc), Vec::new(alloc));
-    MemorySpawner::scripted(alloc, scripts, 100, starts, plans).expect(rt, "memory")
+    MemorySpawner::scripted(alloc, two, 100, starts, plans).expect(rt, "memory")
 }
 
 /// What a start is refused for, if it is.

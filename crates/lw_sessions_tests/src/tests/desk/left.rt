@@ -1,5 +1,5 @@
 //! How many words are left: only those that have to be asked.
-use crate::tests::desk::turns::words;
+use crate::tests::words;
 use lw_cache::Cache;
 use lw_desk::Desk;
 use lw_names::OutNames;

@@ -3,7 +3,8 @@ ghost use Rattle.std.specs.Prelude.{◌≤◌, length};
 
 use crate::tests::desk::name_is;
 use crate::tests::desk::trial::Trial;
-use crate::tests::desk::turns::{Given, give, word};
+use crate::tests::desk::turns::{Given, give};
+use crate::tests::word;
 use lw_desk::Ask;
 use lw_names::OutNames;
 use lw_words::Word;

@@ -1,32 +1,12 @@
 //! Turns of a desk's actors, for the tests: what each asks, what it is told, and what it holds then.
 
 use crate::tests::desk::trial::Trial;
+use crate::tests::{names, word, words};
 use lw_desk::{Ask, Failed, Give, Places};
 use lw_names::{Named, OutName};
-use lw_words::{Names, RunStop, SulStop, Word};
+use lw_words::{RunStop, SulStop};
 use std::alloc::Global;
 use std::process::Abort;
-
-pub fn word(rt: &impl Abort, alloc: Global, letters: &[u16]) -> Word {
-    Word::from_letters(alloc, letters.to_vec(alloc).expect(rt, "memory"))
-}
-
-pub fn words(rt: &impl Abort, alloc: Global, list: &[&[u16]]) -> Vec<Word> {
-    let mut words = Vec::new(alloc);
-    for letters in list {
-        words.push(word(rt, alloc, letters)).expect(rt, "memory");
-    }
-    words
-}
-
-fn names(rt: &impl Abort, alloc: Global, list: &[&str]) -> Names {
-    let mut texts = Vec::new(alloc);
-    for name in list {
-        let text = String::from_str(alloc, name).expect(rt, "memory");
-        texts.push(text).expect(rt, "memory");
-    }
-    Names::from_list(alloc, &texts).expect(rt, "names")
-}
 
 /// An answer that is given to a place, with the names that it brings.
 #[derive(Drop)]

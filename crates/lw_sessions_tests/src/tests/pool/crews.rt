@@ -4,6 +4,7 @@ ghost use Rattle.std.specs.List.{All};
 ghost use Rattle.lw_pool.specs.Opening.{AllMayJoin, member_of};
 
 use crate::tests::pool::acting::{Acting, Meeting};
+use crate::tests::{are_below, are_words, names, words};
 use lw_cache::{AskStop, Cache};
 use lw_mealy::Mealy;
 use lw_names::OutNames;
@@ -24,16 +25,6 @@ pub fn machine(rt: &impl Abort, alloc: Global, rows: &[[(u16, u16); 2]]) -> Meal
         copies.push(copy).expect(rt, "memory");
     }
     Mealy::new(alloc, 2, 2, copies).expect(rt, "a machine")
-}
-
-/// These names.
-pub fn names(rt: &impl Abort, alloc: Global, list: &[&str]) -> Names {
-    let mut texts = Vec::new(alloc);
-    for name in list {
-        let text = String::from_str(alloc, name).expect(rt, "memory");
-        texts.push(text).expect(rt, "memory");
-    }
-    Names::from_list(alloc, &texts).expect(rt, "names")
 }
 
 /// A number that two share.
@@ -195,24 +186,8 @@ pub fn settle<S: Sul + Send, R: Abort + Threads + Wait + Sync>(
     ensures { pool.new.inputs ≡ 2 }
 {
     assert!(rt; batch.len() <= 1000);
-    assert!(rt; batch.iter().all(|w| w.as_slice().iter().all(|x| *x < 2)));
+    assert!(rt; are_words(batch, 2));
     pool.settle_all(batch)
-}
-
-/// This word.
-pub fn word(rt: &impl Abort, alloc: Global, letters: &[u16]) -> Word
-    ensures { result ≡ letters.now }
-{
-    Word::from_letters(alloc, letters.to_vec(alloc).expect(rt, "memory"))
-}
-
-/// These words.
-pub fn words(rt: &impl Abort, alloc: Global, list: &[&[u16]]) -> Vec<Word> {
-    let mut words = Vec::new(alloc);
-    for letters in list {
-        words.push(word(rt, alloc, letters)).expect(rt, "memory");
-    }
-    words
 }
 
 /// Settles these words; whether that succeeds.
@@ -249,7 +224,7 @@ pub fn all_words(rt: &impl Abort, alloc: Global, letters: u32) -> Vec<Word> {
 
 /// Whether an answer is the machine's to a word of four letters.
 fn is_answer(rt: &impl Abort, m: &Mealy, k: &KeptAnswer) -> bool {
-    if m.inputs() != 2 || k.word.len() != 4 || !k.word.as_slice().iter().all(|x| *x < 2) {
+    if m.inputs() != 2 || k.word.len() != 4 || !are_below(k.word.as_slice(), 2) {
         return false;
     }
     let outs = m.answer(&k.word).expect(rt, "memory");

@@ -1,4 +1,5 @@
 //! Drawn machines and batches: what sessions keep together is what one loop over the batch would ask.
+use crate::tests::are_below;
 use crate::tests::pool::crews::{all_words, machine, plans_of, pool_of, settle};
 use lw_cache::{Cache, Known};
 use lw_mealy::Mealy;
@@ -61,7 +62,7 @@ fn is_asked(batch: &[Word], place: usize) -> bool {
 
 /// Whether an answer is the machine's to this word.
 fn answers(rt: &impl Abort, m: &Mealy, k: &KeptAnswer, word: &Word) -> bool {
-    if m.inputs() != 2 || !word.as_slice().iter().all(|x| *x < 2) {
+    if m.inputs() != 2 || !are_below(word.as_slice(), 2) {
         return false;
     }
     let outs = m.answer(word).expect(rt, "memory");
@@ -92,14 +93,21 @@ fn is_kept(rt: &impl Abort, m: &Mealy, kept: &Kept, batch: &[Word]) -> bool {
     right && kept.len() == asked
 }
 
+/// Whether a word begins one of the batch.
+fn begins_one(batch: &[Word], word: &Word) -> bool {
+    for longer in batch {
+        if longer.as_slice().starts_with(word.as_slice()) {
+            return true;
+        }
+    }
+    false
+}
+
 /// Whether of the words of three letters just those are known that begin one of the batch.
 fn knows(rt: &impl Abort, alloc: Global, cache: &Cache, batch: &[Word]) -> bool {
     let mut right = true;
     for word in &all_words(rt, alloc, 3) {
-        let begins = batch
-            .iter()
-            .any(|w| w.as_slice().starts_with(word.as_slice()));
-        right = right && begins == (cache.known(word) == Known::Yes);
+        right = right && begins_one(batch, word) == (cache.known(word) == Known::Yes);
     }
     right
 }

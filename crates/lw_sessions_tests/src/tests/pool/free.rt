@@ -2,7 +2,8 @@
 ghost use Rattle.std.specs.Prelude.{◌≡◌, ◌≤◌, Some, length, replicate, []};
 ghost use Rattle.lw_pool.specs.Opening.{AllMayJoin, member_of};
 
-use crate::tests::pool::crews::{machine, names, settles};
+use crate::tests::names;
+use crate::tests::pool::crews::{machine, settles};
 use crate::tests::pool::growing::Growing;
 use lw_cache::Cache;
 use lw_names::OutNames;

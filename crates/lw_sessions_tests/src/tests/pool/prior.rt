@@ -4,7 +4,8 @@ ghost use Rattle.std.specs.List.{All};
 ghost use Rattle.lw_pool.specs.Opening.{MayBegin};
 
 use crate::tests::pool::acting::Acting;
-use crate::tests::pool::crews::{hired, names, settle, settles, sound_plans, word, words};
+use crate::tests::pool::crews::{hired, settle, settles, sound_plans};
+use crate::tests::{are_below, names, word, words};
 use lw_cache::{AskStop, Cache, Clash};
 use lw_names::OutNames;
 use lw_pool::Pool;
@@ -26,7 +27,7 @@ fn with_prior(
     ensures claims { result.claims ≡ [] }
 {
     assert!(rt; letters.len() == outs.len() && naming.len() == 2);
-    assert!(rt; letters.iter().all(|x| *x < 2) && outs.iter().all(|y| *y < 2));
+    assert!(rt; are_below(letters, 2) && are_below(outs, 2));
     let mut cache = Cache::new(alloc);
     match cache.keep(word(rt, alloc, letters), word(rt, alloc, outs), 16, 0) {
         Ok(()) => cache,

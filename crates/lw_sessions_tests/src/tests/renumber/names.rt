@@ -3,6 +3,7 @@ ghost use Rattle.std.specs.Prelude.{◌≡◌, [], ◌∷◌, false, true, None,
 ghost use Rattle.lw_names.specs.Naming.{MayBring};
 ghost use Rattle.lw_sessions_tests.specs.TestNames.{pair_names, turned_names, one_give, one_word};
 
+use crate::tests::word;
 use lw_cache::Cache;
 use lw_desk::{Ask, Desk, Give, Reply};
 use lw_names::{Named, OutName, OutNames};
@@ -66,12 +67,6 @@ fn turned(rt: &impl Abort, alloc: Global) -> Named
         .push(OutName::new("a").expect(rt, "a name"))
         .expect(rt, "memory");
     names
-}
-
-fn word(rt: &impl Abort, alloc: Global, letters: &[u16]) -> Word
-    ensures { result ≡ letters.now }
-{
-    Word::from_letters(alloc, letters.to_vec(alloc).expect(rt, "memory"))
 }
 
 /// The answer to the word, which brings names.

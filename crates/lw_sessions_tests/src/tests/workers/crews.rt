@@ -4,6 +4,7 @@ ghost use Rattle.lw_words.specs.Cause.{CountedFault};
 ghost use Rattle.lw_words.specs.declared.stop.SulStop.TheVariants.{Failed};
 ghost use Rattle.lw_pool.specs.Opening.{AllMayJoin, member_of};
 
+use crate::tests::names;
 use lw_cache::Cache;
 use lw_mealy::Mealy;
 use lw_names::{OutName, OutNames};
@@ -146,12 +147,7 @@ pub fn machine(rt: &impl Abort, alloc: Global, cells: &[(u16, u16)]) -> Mealy
 pub fn names_of(rt: &impl Abort, alloc: Global, list: &[&str]) -> Names
     ensures { length result ≡ length list.now }
 {
-    let mut texts = Vec::new(alloc);
-    for name in list {
-        let text = String::from_str(alloc, name).expect(rt, "memory");
-        texts.push(text).expect(rt, "memory");
-    }
-    let names = Names::from_list(alloc, &texts).expect(rt, "names");
+    let names = names(rt, alloc, list);
     assert!(rt; usize::from(names.len()) == list.len());
     names
 }

@@ -38,6 +38,9 @@ pub fn call<R: Threads + Wait + Sync + Drop>(
     learn_machine(rt, alloc, system, names, start, settings, &mut Unwatched)
 }
 
+/// Lets what came of a learning go. A proof that does is long, so no other function of these tests does.
+pub fn let_go(_ended: LearningOutcome) {}
+
 /// What comes of a machine whose outputs have these names with so many instances.
 fn learned_by<R: Abort + Threads + Wait + Sync + Copy + Drop>(
     rt: R,
@@ -80,23 +83,42 @@ fn has_found(ended: &LearningOutcome, states: u16, refinements: u32, letters: &[
     is_found(&ended.learned, states, refinements) && are_long(&ended.kept, letters)
 }
 
+/// Whether so many instances take the counter for one state where there is no extra one.
+fn finds_one<R: Abort + Threads + Wait + Sync + Copy + Drop>(
+    rt: R,
+    alloc: Global,
+    workers: u8,
+) -> bool {
+    let ended = counter_by(rt, alloc, workers, 0, 4);
+    let right = has_found(&ended, 1, 0, &[2]);
+    let_go(ended);
+    right
+}
+
 /// No suite word of fewer than three letters tells a counter of three from a machine of one state.
 #[test]
 fn a_counter_of_three_is_taken_for_one_state(rt: HostRuntime) {
     for workers in [1u8, 2, 16] {
-        let ended = counter_by(rt, rt.alloc(), workers, 0, 4);
-        assert!(rt; has_found(&ended, 1, 0, &[2]), "{workers} instances");
+        assert!(rt; finds_one(rt, rt.alloc(), workers), "{workers} instances");
     }
+}
+
+/// Whether so many instances find the counter's three states where there are two extra ones.
+fn finds_three<R: Abort + Threads + Wait + Sync + Copy + Drop>(
+    rt: R,
+    alloc: Global,
+    workers: u8,
+) -> bool {
+    let ended = counter_by(rt, alloc, workers, 2, 4);
+    let right = has_found(&ended, 3, 1, &[2, 3, 4, 5, 7]);
+    let_go(ended);
+    right
 }
 
 #[test]
 fn two_extra_states_tell_a_counter_of_three(rt: HostRuntime) {
     for workers in [1u8, 2, 16] {
-        let ended = counter_by(rt, rt.alloc(), workers, 2, 4);
-        assert!(rt;
-            has_found(&ended, 3, 1, &[2, 3, 4, 5, 7]),
-            "{workers} instances"
-        );
+        assert!(rt; finds_three(rt, rt.alloc(), workers), "{workers} instances");
     }
 }
 
@@ -106,10 +128,17 @@ fn has_stopped(ended: &LearningOutcome, count: usize, letters: &[usize]) -> bool
     is_crowd(&ended.learned, count) && are_long(&ended.kept, letters)
 }
 
+/// Whether a learning of the counter stops where there may be two states.
+fn stops<R: Abort + Threads + Wait + Sync + Copy + Drop>(rt: R, alloc: Global) -> bool {
+    let ended = counter_by(rt, alloc, 2, 2, 2);
+    let right = has_stopped(&ended, 3, &[2, 3, 4]);
+    let_go(ended);
+    right
+}
+
 #[test]
 fn two_states_are_too_few_for_a_counter(rt: HostRuntime) {
-    let ended = counter_by(rt, rt.alloc(), 2, 2, 2);
-    assert!(rt; has_stopped(&ended, 3, &[2, 3, 4]));
+    assert!(rt; stops(rt, rt.alloc()));
 }
 
 /// The machine of one state over 64 letters.
@@ -140,12 +169,18 @@ fn many_letters_by<R: Abort + Threads + Wait + Sync + Copy + Drop>(
     learned_by(rt, alloc, &system, &names, 2, 3, 4)
 }
 
+/// Whether the suite is too large, and so many answers are kept.
+fn is_refused<R: Abort + Threads + Wait + Sync + Copy + Drop>(rt: R, alloc: Global) -> bool {
+    let ended = many_letters_by(rt, alloc);
+    let right = is_too_large(&ended, 1, 17_043_521) && ended.kept.len() == 4096;
+    let_go(ended);
+    right
+}
+
 /// Each word of two letters was asked, and the suite wasn't: 1 + 64 + 64² + 64³ + 64⁴ words are too many.
 #[test]
 fn a_suite_over_many_letters_is_too_large(rt: HostRuntime) {
-    let ended = many_letters_by(rt, rt.alloc());
-    assert!(rt; is_too_large(&ended, 1, 17_043_521));
-    assert!(rt; ended.kept.len() == 4096);
+    assert!(rt; is_refused(rt, rt.alloc()));
 }
 
 /// Four states that are their own canonical form.
@@ -201,10 +236,21 @@ fn has_found_them(ended: &LearningOutcome) -> bool {
     }
 }
 
+/// Whether so many instances find them.
+fn finds_them<R: Abort + Threads + Wait + Sync + Copy + Drop>(
+    rt: R,
+    alloc: Global,
+    workers: u8,
+) -> bool {
+    let ended = four_states_by(rt, alloc, workers);
+    let right = has_found_them(&ended);
+    let_go(ended);
+    right
+}
+
 #[test]
 fn however_many_instances_find_the_same_model(rt: HostRuntime) {
     for workers in [1u8, 2, 8] {
-        let ended = four_states_by(rt, rt.alloc(), workers);
-        assert!(rt; has_found_them(&ended), "{workers} instances");
+        assert!(rt; finds_them(rt, rt.alloc(), workers), "{workers} instances");
     }
 }

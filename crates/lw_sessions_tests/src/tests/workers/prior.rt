@@ -5,26 +5,20 @@ ghost use Rattle.lw_cache.specs.Clash.{NothingClashes};
 ghost use Rattle.lw_pool.specs.Opening.{MayBegin};
 
 use crate::tests::workers::crews::{machine, names_of};
-use crate::tests::workers::machines::call;
+use crate::tests::workers::machines::{call, let_go};
 use crate::tests::workers::{COUNTER, are_long, is_found};
+use crate::tests::{are_below, word};
 use lw_cache::{AskStop, Cache, Clash};
 use lw_chunks::Method;
 use lw_mealy::Mealy;
 use lw_names::OutNames;
 use lw_rounds::{Kind, LearnStop, Settings};
-use lw_words::{Kept, Word, Words};
+use lw_words::{Kept, Words};
 use lw_workers::{LearningOutcome, Start};
 use std::alloc::Global;
 use std::process::Abort;
 use std::sync::Wait;
 use std::thread::Threads;
-
-/// This word.
-fn word(rt: &impl Abort, alloc: Global, letters: &[u16]) -> Word
-    ensures { result ≡ letters.now }
-{
-    Word::from_letters(alloc, letters.to_vec(alloc).expect(rt, "memory"))
-}
 
 /// A cache that keeps the answer of these outputs to these letters of an earlier call.
 fn with_prior(
@@ -41,7 +35,7 @@ fn with_prior(
 {
     let (inputs, outputs) = (system.inputs(), system.outputs());
     assert!(rt; letters.len() == outs.len() && naming.len() == outputs);
-    assert!(rt; letters.iter().all(|x| *x < inputs) && outs.iter().all(|y| *y < outputs));
+    assert!(rt; are_below(letters, inputs) && are_below(outs, outputs));
     let mut cache = Cache::new(alloc);
     match cache.keep(word(rt, alloc, letters), word(rt, alloc, outs), 16, 0) {
         Ok(()) => cache,
@@ -79,13 +73,25 @@ fn begins_with_prior(kept: &Kept) -> bool {
     right && prior.outs.as_slice() == [0u16, 0, 1].as_slice()
 }
 
+/// Whether the counter is found, by the answers to words of these numbers of letters, of which the first is the prior one.
+fn has_gone_on(ended: &LearningOutcome, letters: &[usize]) -> bool {
+    is_found(&ended.learned, 3, 1)
+        && are_long(&ended.kept, letters)
+        && begins_with_prior(&ended.kept)
+}
+
+/// Whether it is, behind an answer of the counter.
+fn goes_on<R: Abort + Threads + Wait + Sync + Copy + Drop>(rt: R, alloc: Global) -> bool {
+    let ended = learned_after(rt, alloc, &[0, 0, 0], &[0, 0, 1]);
+    let right = has_gone_on(&ended, &[3, 4, 5, 7]);
+    let_go(ended);
+    right
+}
+
 /// The words of two and three letters are known, and not asked again.
 #[test]
 fn a_learning_begins_with_what_was_kept_before(rt: HostRuntime) {
-    let ended = learned_after(rt, rt.alloc(), &[0, 0, 0], &[0, 0, 1]);
-    assert!(rt; is_found(&ended.learned, 3, 1));
-    assert!(rt; are_long(&ended.kept, &[3, 4, 5, 7]));
-    assert!(rt; begins_with_prior(&ended.kept));
+    assert!(rt; goes_on(rt, rt.alloc()));
 }
 
 /// The clash that a learning stopped with.
@@ -99,14 +105,25 @@ fn clash_of(ended: &LearningOutcome) -> Option<Clash> {
     }
 }
 
-#[test]
-fn an_answer_that_is_not_the_counters_is_told(rt: HostRuntime) {
-    let ended = learned_after(rt, rt.alloc(), &[0], &[1]);
+/// Whether the first two answers clash, and are to words of these numbers of letters.
+fn has_clashed(ended: &LearningOutcome, letters: &[usize]) -> bool {
     let expected = Clash {
         first: 0,
         second: 1,
         place: 0,
     };
-    assert!(rt; clash_of(&ended) == Some(expected));
-    assert!(rt; are_long(&ended.kept, &[1, 2]));
+    clash_of(ended) == Some(expected) && are_long(&ended.kept, letters)
+}
+
+/// Whether they do, behind an answer that isn't the counter's.
+fn clashes_at_once<R: Abort + Threads + Wait + Sync + Copy + Drop>(rt: R, alloc: Global) -> bool {
+    let ended = learned_after(rt, alloc, &[0], &[1]);
+    let right = has_clashed(&ended, &[1, 2]);
+    let_go(ended);
+    right
+}
+
+#[test]
+fn an_answer_that_is_not_the_counters_is_told(rt: HostRuntime) {
+    assert!(rt; clashes_at_once(rt, rt.alloc()));
 }
