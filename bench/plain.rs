@@ -727,9 +727,13 @@ mod suite {
                 if chunk.len() == 0 {
                     return None;
                 }
+                let before = oracle.answers.len();
                 chunk = oracle.settle(chunk);
-                if let Some(word) = chunk.iter().find_map(|word| differing_prefix(&oracle.trie, machine, word)) {
-                    return Some(word.to_vec());
+                // What was known before agrees with the machine.
+                if oracle.answers.len() > before {
+                    if let Some(word) = chunk.iter().find_map(|word| differing_prefix(&oracle.trie, machine, word)) {
+                        return Some(word.to_vec());
+                    }
                 }
             }
         }
@@ -1480,7 +1484,7 @@ mod files {
         reader.peek().is_none().then_some(value)
     }
 
-    pub fn read(path: &str, role: &str) -> String {
+    fn read(path: &str, role: &str) -> String {
         fs::read_to_string(path).unwrap_or_else(|_| crate::stop(8, &format!("file fault: {role}")))
     }
 
