@@ -411,9 +411,9 @@ mod asking {
     use crate::machine::Machine;
     use crate::trie::Trie;
     use crate::words::Words;
-    use std::sync::Arc;
     use std::sync::atomic::{AtomicUsize, Ordering};
-    use std::sync::mpsc::{Receiver, Sender, channel};
+    use std::sync::mpsc::{channel, Receiver, Sender};
+    use std::sync::Arc;
     use std::thread::Scope;
 
     /// The most words that a thread takes at once.
@@ -674,7 +674,7 @@ mod children {
 mod suite {
     use crate::asking::Oracle;
     use crate::machine::Machine;
-    use crate::trie::{ROOT, Trie};
+    use crate::trie::{Trie, ROOT};
     use crate::words::{Word, Words};
 
     pub const GREATEST: usize = 8_388_608;
@@ -856,7 +856,7 @@ mod table {
     use crate::asking::Oracle;
     use crate::machine::Machine;
     use crate::rounds::{Cut, Learner};
-    use crate::trie::{ROOT, Trie};
+    use crate::trie::{Trie, ROOT};
     use crate::words::{Word, Words};
     use std::collections::HashMap;
 
@@ -997,7 +997,7 @@ mod tree {
     use crate::asking::Oracle;
     use crate::machine::Machine;
     use crate::rounds::{Cut, Learner};
-    use crate::trie::{ROOT, Trie};
+    use crate::trie::{Trie, ROOT};
     use crate::words::{Word, Words};
 
     const NONE: u32 = u32::MAX;
@@ -1327,7 +1327,7 @@ mod files {
     use crate::asking::Oracle;
     use crate::machine::Machine;
     use crate::trie::ROOT;
-    use crate::words::{Words, spelled};
+    use crate::words::{spelled, Words};
     use std::borrow::Cow;
     use std::collections::HashMap;
     use std::fs::{self, File};
@@ -1811,6 +1811,9 @@ fn learn_over<T>(
     sessions: Vec<Session<'_>>,
     then: impl FnOnce(Machine, usize, &Oracle<'_>) -> T,
 ) -> T {
+    if arguments.text("suite").is_some_and(|suite| suite != "w") {
+        stop(2, "usage");
+    }
     let extra = arguments.number("extra", 1) as u8;
     let mut learner: Box<dyn Learner> = match arguments.text("learner") {
         Some("ttt") => Box::new(tree::Tree::new(inputs)),
@@ -1828,8 +1831,16 @@ fn learn_over<T>(
     })
 }
 
+/// The number of workers, 1 to 16.
+fn workers(arguments: &Arguments) -> usize {
+    match arguments.number("workers", 1) {
+        count @ 1..=16 => count as usize,
+        _ => stop(2, "usage"),
+    }
+}
+
 fn tables<'a>(machine: &'a Machine, arguments: &Arguments) -> Vec<Session<'a>> {
-    (0..arguments.number("workers", 1)).map(|_| Session::Table(machine)).collect()
+    (0..workers(arguments)).map(|_| Session::Table(machine)).collect()
 }
 
 fn trial(arguments: &Arguments) {
@@ -1845,14 +1856,7 @@ fn trial(arguments: &Arguments) {
 }
 
 /// Writes what was learned: files, and a line.
-fn tell(
-    arguments: &Arguments,
-    inputs: &[String],
-    outputs: &[String],
-    model: &Machine,
-    refinements: usize,
-    oracle: &Oracle<'_>,
-) {
+fn tell(arguments: &Arguments, inputs: &[String], outputs: &[String], model: &Machine, refinements: usize, oracle: &Oracle<'_>) {
     if let Some(path) = arguments.text("model") {
         files::write_file(path, "model", |to| files::put_machine(to, model, inputs, outputs));
     }
@@ -1879,7 +1883,7 @@ fn learn(arguments: &Arguments) {
     }
     let (command, inputs, outputs) = files::read_as(arguments.place(1), "setup", files::setup);
     let output_names = outputs.list.clone();
-    let (links, children) = children::start(&command, &inputs, outputs, arguments.number("workers", 1) as usize);
+    let (links, children) = children::start(&command, &inputs, outputs, workers(arguments));
     let sessions = links.into_iter().map(Session::Child).collect();
     learn_over(arguments, inputs.list.len(), sessions, |model, refinements, oracle| {
         tell(arguments, &inputs.list, &output_names, &model, refinements, oracle);
@@ -1911,8 +1915,13 @@ fn serve(arguments: &Arguments) {
     }
 }
 
+const OPTIONS: [&str; 10] = ["states", "inputs", "seed", "workers", "learner", "extra", "suite", "table", "model", "answers"];
+
 fn main() {
     let arguments = Arguments::read();
+    if !arguments.options.keys().all(|name| OPTIONS.contains(&name.as_str())) {
+        stop(2, "usage");
+    }
     match arguments.place(0) {
         "trial" => trial(&arguments),
         "learn" => learn(&arguments),
