@@ -1327,7 +1327,7 @@ mod files {
     use crate::asking::Oracle;
     use crate::machine::Machine;
     use crate::trie::ROOT;
-    use crate::words::{spelled, Words};
+    use crate::words::Words;
     use std::borrow::Cow;
     use std::collections::HashMap;
     use std::fs::{self, File};
@@ -1342,7 +1342,7 @@ mod files {
     }
 
     impl<'a> Json<'a> {
-        pub fn text(&self) -> Option<&str> {
+        fn text(&self) -> Option<&str> {
             match self {
                 Json::Text(text) => Some(text),
                 _ => None,
@@ -1364,7 +1364,7 @@ mod files {
         }
 
         /// The last member with this name.
-        pub fn member(&self, name: &str) -> Option<&Json<'a>> {
+        fn member(&self, name: &str) -> Option<&Json<'a>> {
             match self {
                 Json::Object(members) => members.iter().rev().find(|(other, _)| other == name).map(|(_, value)| value),
                 _ => None,
@@ -1478,7 +1478,7 @@ mod files {
         }
     }
 
-    pub fn parse(text: &str) -> Option<Json<'_>> {
+    fn parse(text: &str) -> Option<Json<'_>> {
         let mut reader = Reader { text, at: 0 };
         let value = reader.value()?;
         reader.peek().is_none().then_some(value)
@@ -1521,7 +1521,7 @@ mod files {
             }
         }
 
-        pub fn in_member(value: &Json<'_>, name: &str) -> Option<Names> {
+        fn in_member(value: &Json<'_>, name: &str) -> Option<Names> {
             value.member(name)?.texts().map(Names::new)
         }
 
@@ -1686,16 +1686,11 @@ mod files {
             crate::stop(8, &format!("file fault: {role}"));
         }
     }
-
-    /// A word in names.
-    pub fn word_text(names: &[String], word: &[u8]) -> String {
-        spelled(names, word)
-    }
 }
 
 /// The verdict of `check`.
 mod checking {
-    use crate::files::{self, Answers, Named};
+    use crate::files::{Answers, Named};
     use crate::suite::{self, Suite};
     use crate::trie::Trie;
     use crate::words::spelled;
@@ -1751,7 +1746,7 @@ mod checking {
             crate::stop(7, &format!("suite too large: states {}, extra {extra}, number {size}", machine.states()));
         }
         match Suite::new(machine, extra).first_missing(&trie) {
-            Some(word) => Err(format!("no: word \"{}\" is missing", files::word_text(&model.inputs.list, &word))),
+            Some(word) => Err(format!("no: word \"{}\" is missing", spelled(&model.inputs.list, &word))),
             None => Ok(format!("yes: states {}, extra {extra}, answers {}", machine.states(), answers.words.len())),
         }
     }
