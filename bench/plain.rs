@@ -184,22 +184,27 @@ mod machine {
         /// Words that tell all states apart: for each pair that those before don't tell apart, the least that does.
         pub fn separators(&self) -> Vec<Word> {
             let levels = self.levels();
-            let (mut words, mut told) = (Vec::new(), vec![0_u16; self.states()]);
-            for p in 0..told.len() {
-                for q in p + 1..told.len() {
-                    if told[p] == told[q] {
+            let (mut words, mut classes) = (Vec::new(), vec![0; self.states()]);
+            for p in 0..classes.len() {
+                for q in p + 1..classes.len() {
+                    if classes[p] == classes[q] {
                         let word = self.separating(&levels, p, q);
-                        let mut numbers = HashMap::new();
-                        for (state, class) in told.iter_mut().enumerate() {
-                            let next = numbers.len() as u16;
-                            let outputs: Vec<u16> = self.outputs(state as u16, &word).collect();
-                            *class = *numbers.entry((*class, outputs)).or_insert(next);
-                        }
+                        self.split(&mut classes, &word);
                         words.push(word);
                     }
                 }
             }
             words
+        }
+
+        /// Splits classes of states by their outputs on a word.
+        fn split(&self, classes: &mut [u16], word: &[u8]) {
+            let mut numbers = HashMap::new();
+            for (state, class) in classes.iter_mut().enumerate() {
+                let next = numbers.len() as u16;
+                let outputs: Vec<u16> = self.outputs(state as u16, word).collect();
+                *class = *numbers.entry((*class, outputs)).or_insert(next);
+            }
         }
 
         /// The first two states that agree on all words.
@@ -392,12 +397,13 @@ mod trie {
                 let (state, depth) = reached[node.parent as usize];
                 let (target, output) = machine.step(state, node.letter);
                 reached.push((target, depth + 1));
-                if output != node.output && found.as_ref().is_none_or(|&(least, _)| depth < least) {
+                if output != node.output && found.as_ref().is_none_or(|&(least, _)| depth <= least) {
                     self.read(place as u32, &mut word, &mut outputs);
-                    found = Some((depth, word.clone()));
-                } else if output != node.output && found.as_ref().is_some_and(|&(least, _)| depth == least) {
-                    self.read(place as u32, &mut word, &mut outputs);
-                    found = found.map(|(depth, least)| (depth, least.min(word.clone())));
+                    let new = (depth, word.clone());
+                    found = match found {
+                        Some(old) => Some(old.min(new)),
+                        None => Some(new),
+                    };
                 }
             }
             found.map(|(_, word)| word)
