@@ -339,7 +339,7 @@ module _ (before now : WorldState) (end : End) where
   kept None r = tt
   kept (Some (Learn a)) r = keeps a before now end r.ran
   kept (Some (Check a)) r = tt
-  kept (Some (TrialCall a)) r = (r.ran.kept, if_some _ (λ h. h.inputs ≡ a.inputs) end.model (λ h has. has.certified.inputs) r.ran.model)
+  kept (Some (TrialCall a)) r = (r.ran.kept, if_some _ (λ h. h.inputs ≡ a.inputs) end.model (λ h has. has.certified.inputs) r.ran.model, r.ran.plainly)
   kept (Some (Serve model)) r = tt
   kept (Some (Ask a)) r = tt
   kept (Some (Compare models)) r = tt

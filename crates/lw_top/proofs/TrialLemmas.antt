@@ -16,7 +16,7 @@ use Rattle.lw_report.specs.declared.«end».End.{End}
 use Rattle.lw_report.specs.declared.outcome.Outcome.{Outcome}
 use Rattle.lw_report.specs.declared.outcome.Outcome.TheVariants.{NoMemory, SinkFault, SuiteTooLarge, Trial}
 use Rattle.lw_trial.specs.Arguments.{TrialValues}
-use Rattle.lw_trial.specs.TrialRun.{IsReachedTrial, IsTrial, IsTrialOutcome, IsTrialRun, drawn_machine, drawn_naming}
+use Rattle.lw_trial.specs.TrialRun.{IsReachedTrial, IsTrial, IsTrialOutcome, IsTrialRun, IsTriedPlainly, drawn_machine, drawn_naming}
 use Rattle.lw_top.specs.Run.{TellsOutcome}
 
 -- no answers are runs of any machine
@@ -46,6 +46,7 @@ wanted_trial v f o e d end out r =
       told = λ t is. let wrong : NoMemory ≡ Trial t = sym out ∙ is in absurd (cc);
       quiet = λ is. absurd (subst IsTrial out is);
       kept = subst (λ (k : List KeptAnswer). KeepsRuns (drawn_machine v) v.workers [] k) (sym r.kept) (keeps_nothing (drawn_machine v) v.workers);
+      plainly = subst (λ (m : Option MealyMachine). IfSome m (λ h. IsTriedPlainly v h.rows end.refinements end.kept.answers)) (sym r.model) tt;
       reached = λ small one other. subst (IsReachedTrial v.states) (sym out) tt;
       written = λ is. absurd (subst IsTrial out is);
       part = λ other. absurd (other refl);

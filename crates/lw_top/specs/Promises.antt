@@ -49,7 +49,7 @@ use Rattle.lw_learn.specs.Tasks.{ReadsTask}
 use Rattle.lw_learn.specs.Writing.{NothingFailed, PutsAll, StandsInFile}
 use Rattle.lw_recheck.specs.Arguments.{RecheckValues}
 use Rattle.lw_recheck.specs.Reading.{ReadsBoth}
-use Rattle.lw_trial.specs.TrialRun.{IsReachedTrial, drawn_machine}
+use Rattle.lw_trial.specs.TrialRun.{IsReachedTrial, IsTriedPlainly, drawn_machine}
 use Rattle.lw_top.specs.Call.{CallValues, Learn, Check, Trial, Serve, Ask, Compare, Recheck}
 use Rattle.lw_top.specs.CheckCommand.{CheckValues}
 use Rattle.lw_top.specs.World.{WorldState}
@@ -180,10 +180,11 @@ pub record AsksNothing (a : LearnValues) (before now : WorldState) (end : End) :
   pub kept : KeepsPrior a before.files now.files end.kept.answers
 
 -- the recorded answers are the runs of the instances, behind those of a file of earlier answers, of `learn` and of
--- `trial`
+-- `trial`; a trial's, too, are the plain learner's of the drawn machine, where a table was learned by the W-method
 abbrev pub KeptAreRuns : Option CallValues → WorldState → WorldState → End → Type 0
 KeptAreRuns (Some (Learn a)) before now end = KeepsLearned a before now end ⊎ AsksNothing a before now end
-KeptAreRuns (Some (Trial a)) before now end = KeepsRuns (drawn_machine a) a.workers [] end.kept.answers × IsOverLetters a.inputs end.model
+KeptAreRuns (Some (Trial a)) before now end =
+    KeepsRuns (drawn_machine a) a.workers [] end.kept.answers × IsOverLetters a.inputs end.model × IfSome end.model (λ h. IsTriedPlainly a h.rows end.refinements end.kept.answers)
 KeptAreRuns _ before now end = Unit {0}
 
 -- of the system that was learned: where no file, stream or start of a child failed, and some machine of n states that

@@ -9,15 +9,18 @@ use Rattle.lw_words.specs.declared.kept.KeptAnswer.{KeptAnswer}
 use Rattle.lw_mealy.specs.Machine.{Gives, MealyMachine, IsWithinLimits, Rows, IsMachine}
 use Rattle.lw_cache.proofs.CrowdLemmas.{crowd_needs_states}
 use Rattle.lw_chunks.specs.Size.{suite_size, greatest_suite}
+use Rattle.lw_chunks.specs.declared.method.Method.{Method}
 use Rattle.lw_rounds.specs.Learned.{IsEnoughFor, IsLearned, IsReadOff, StopsAs}
 use Rattle.lw_rounds.specs.Learner.{refinements_of}
 use Rattle.lw_rounds.specs.Stops.{IsOwnStop}
 use Rattle.lw_rounds.specs.declared.learned.Learned.{Learned}
+use Rattle.lw_rounds.specs.declared.learner.Kind.{Kind}
 use Rattle.lw_rounds.specs.declared.learner.Learner.{Learner}
 use Rattle.lw_rounds.specs.declared.stops.LearnStop.{LearnStop}
 use Rattle.lw_rounds.specs.declared.stops.LearnStop.TheVariants as learn
 use Rattle.lw_names.specs.Naming.{Naming}
 use Rattle.lw_workers.specs.Machines.{IsMachineStop, KeepsRuns, IsReached, IsWithin}
+use Rattle.lw_workers.specs.Plain.{RunsAsPlain}
 use Rattle.lw_workers.proofs.MachineLemmas.{own_stop}
 use Rattle.lw_report.specs.Ends.{IsWithoutLearner}
 use Rattle.lw_report.specs.Learnings.{HasModel, HasLargeSuite, learn_outcome}
@@ -37,7 +40,7 @@ use Rattle.lw_report.proofs.LearningLemmas.{has_model, has_large_suite, own_ask}
 use Rattle.lw_trial.specs.Arguments.{TrialValues}
 use Rattle.lw_wordlist.specs.Drawn.{seeded}
 use Rattle.lw_trial.specs.Drawn.{drawn_row}
-use Rattle.lw_trial.specs.TrialRun.{IsReachedTrial, IsTrial, IsTrialOutcome, IsTrialRun, IsTried, drawn_machine, drawn_naming}
+use Rattle.lw_trial.specs.TrialRun.{IsReachedTrial, IsTrial, IsTrialOutcome, IsTrialRun, IsTried, IsTriedPlainly, drawn_machine, drawn_naming}
 use Rattle.lw_trial.specs.bodies.Told.{IsToldOf}
 
 -- a drawn machine has as many states as were asked for
@@ -132,6 +135,7 @@ refused_run v o e d end none learner outputs is =
       told = λ t e. absurd (no_trial (subst IsTrial (sym e) tt));
       quiet = λ t. absurd (no_trial t);
       kept = is.runs;
+      plainly = subst (λ (m : Option MealyMachine). IfSome m (λ h. IsTriedPlainly v h.rows end.refinements end.kept.answers)) (sym none) tt;
       outputs = subst (λ (n : Option Naming). IfSome n (λ named. named ≡ drawn_naming)) (sym outputs) refl;
       unnamed = λ none_named. let wrong : ◌≡◌ {A = Option Naming} (Some drawn_naming) None = sym outputs ∙ none_named in absurd (cc);
       reached = λ small _ _. is.reached small;
@@ -168,6 +172,20 @@ learning_reached v kept r is small =
 pub few_refinements : (v : TrialValues) (kept : List KeptAnswer) (l : Learned) → HasCome (drawn_machine v) v.workers kept (Ok l) → suite_size v.states v.inputs 1 ≤ greatest_suite → refinements_of l.learner < v.states
 few_refinements v kept l is small = learning_reached v kept (Ok l) is small
 
+-- what a learning came to by any machine that gives its answers, it came to by the drawn one
+pub plain_tried : (v : TrialValues) (kept : List KeptAnswer) (l : Learned) → HasCome (drawn_machine v) v.workers kept (Ok l) → RunsAsPlain v.learner v.suite v.inputs 1 1024 [] (Ok l) [] kept → IsTriedPlainly v l.model.rows (refinements_of l.learner) kept
+plain_tried v kept l is runs is_table by_w = runs is_table by_w refl (drawn_machine v).rows is.within.machine (all_given (drawn_machine v) v.workers kept is.runs)
+
+-- the same under what the arguments say
+pub plain_drawn : (v : TrialValues) (of_kind : Kind) (suites : Method) (a : ℕ) (given : List (List ℕ)) (r : Result Learned LearnStop) (prior kept : List KeptAnswer) → of_kind ≡ v.learner → suites ≡ v.suite → a ≡ v.inputs → given ≡ [] → prior ≡ []
+    → RunsAsPlain of_kind suites a 1 1024 given r prior kept → RunsAsPlain v.learner v.suite v.inputs 1 1024 [] r [] kept
+plain_drawn v of_kind suites a given r prior kept same method letters none before runs =
+    subst (λ (x : Kind). RunsAsPlain x v.suite v.inputs 1 1024 [] r [] kept) same
+    (subst (λ (x : Method). RunsAsPlain of_kind x v.inputs 1 1024 [] r [] kept) method
+    (subst (λ (n : ℕ). RunsAsPlain of_kind suites n 1 1024 [] r [] kept) letters
+    (subst (λ (ws : List (List ℕ)). RunsAsPlain of_kind suites a 1 1024 ws r [] kept) none
+    (subst (λ (ks : List KeptAnswer). RunsAsPlain of_kind suites a 1 1024 given r ks kept) before runs))))
+
 -- a call whose learning stopped
 pub stopped_run : (v : TrialValues) (o e d : SinkState) (end : End) (stop : LearnStop) (kept : List KeptAnswer) → HasCome (drawn_machine v) v.workers kept (Err stop) → end.kept.answers ≡ kept → end.model ≡ None → IsWithoutLearner end
     → end.outputs ≡ Some drawn_naming → StandsOrWants (learn_outcome stop) end.outcome → (¬ CountedFault e.faults d.faults → TakesAll (said_text None None kept 1 end.outcome) e.taken d.taken) → TakesSome (said_text None None kept 1 end.outcome) e.taken d.taken → IsTrialRun v o o e d end
@@ -195,6 +213,7 @@ pub record IsCarried (v : TrialValues) (end : End) (h : MealyMachine) (learner :
   pub runs : KeepsRuns (drawn_machine v) v.workers [] kept
   pub learned : IsLearned v.learner v.inputs 2 1 1024 (answers_of kept) h learner
   pub enough : IsEnoughFor v.suite v.inputs 1 (answers_of kept) h
+  pub plainly : IsTriedPlainly v h.rows (refinements_of learner) kept
   pub reached : suite_size v.states v.inputs 1 ≤ greatest_suite → refinements_of learner < v.states
 
 module _ (v : TrialValues) (end : End) (h : MealyMachine) (learner : Learner) (kept : List KeptAnswer) (is : IsCarried v end h learner kept) where
@@ -209,6 +228,11 @@ module _ (v : TrialValues) (end : End) (h : MealyMachine) (learner : Learner) (k
 
   reads_off : IfSome end.model (λ h. (l : Learner) × (end.learner ≡ Some l) × IsReadOff v.learner v.inputs 2 1024 (answers_of end.kept.answers) h.rows l)
   reads_off = subst (λ (m : Option MealyMachine). IfSome m (λ h. (l : Learner) × (end.learner ≡ Some l) × IsReadOff v.learner v.inputs 2 1024 (answers_of end.kept.answers) h.rows l)) (sym is.model) (learner, is.carried, subst (λ (ks : List KeptAnswer). IsReadOff v.learner v.inputs 2 1024 (answers_of ks) h.rows learner) (sym is.keeps) is.learned.carried)
+
+  tried_plainly : IfSome end.model (λ h. IsTriedPlainly v h.rows end.refinements end.kept.answers)
+  tried_plainly =
+      subst (λ (m : Option MealyMachine). IfSome m (λ h. IsTriedPlainly v h.rows end.refinements end.kept.answers)) (sym is.model)
+      (subst (λ (n : ℕ). IsTriedPlainly v h.rows n end.kept.answers) (sym is.counted) (subst (λ (ks : List KeptAnswer). IsTriedPlainly v h.rows (refinements_of learner) ks) (sym is.keeps) is.plainly))
 
   outputs_are : IfSome end.outputs (λ named. named ≡ drawn_naming)
   outputs_are = subst (λ (n : Option Naming). IfSome n (λ named. named ≡ drawn_naming)) (sym is.outputs) refl
@@ -248,6 +272,7 @@ tried_run v o p e end h learner kept t is out told takes quiet =
       told = λ u e. let both : Trial t ≡ Trial u = sym out ∙ e in let same : t ≡ u = cc in subst (IsTried v end) same tried;
       quiet = λ _. (quiet, refl);
       kept = keeps_runs v end h learner kept is;
+      plainly = tried_plainly v end h learner kept is;
       outputs = outputs_are v end h learner kept is;
       unnamed = λ none. absurd (named v end h learner kept is none);
       reached = λ small _ _. let few : t.refinements < v.states = omega (arith, told.refined, is.reached small) in subst (IsReachedTrial v.states) (sym out) few;
@@ -301,6 +326,7 @@ untold_run v o p e d end h learner kept outcome is out untold =
       told = λ t e. absurd (no_trial (subst IsTrial (sym e) tt));
       quiet = λ t. absurd (no_trial t);
       kept = keeps_runs v end h learner kept is;
+      plainly = tried_plainly v end h learner kept is;
       outputs = outputs_are v end h learner kept is;
       unnamed = λ none. absurd (named v end h learner kept is none);
       reached = λ _ quiet _. by_cause o p (IsReachedTrial v.states) (λ counted. absurd (quiet counted)) (λ _. tt) end.outcome cause;

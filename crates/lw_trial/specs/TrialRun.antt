@@ -2,13 +2,18 @@
 use Rattle.std.specs.Prelude.{◌≡◌, ◌≢◌, ◌↔◌, ℕ, ◌<◌, ◌≤◌, List, [], ◌∷◌, length, codes, true, None, Some, IfSome}
 use Rattle.lw_words.specs.Word.{answers_of}
 use Rattle.lw_words.specs.Cause.{CountedFault}
-use Rattle.lw_mealy.specs.Machine.{MealyMachine, mealy_of}
+use Rattle.lw_words.specs.declared.kept.KeptAnswer.{KeptAnswer}
+use Rattle.lw_mealy.specs.Machine.{MealyMachine, Rows, mealy_of}
 use Rattle.lw_separate.specs.Canonical.{IsCanonical}
 use Rattle.lw_chunks.specs.Size.{suite_size, greatest_suite}
+use Rattle.lw_chunks.specs.declared.method.Method.TheVariants as method
 use Rattle.lw_names.specs.Naming.{Naming}
 use Rattle.lw_rounds.specs.Learned.{IsReadOff}
+use Rattle.lw_rounds.specs.Plain.{plain_task}
+use Rattle.lw_rounds.specs.declared.learner.Kind.TheVariants as kind
 use Rattle.lw_rounds.specs.declared.learner.Learner.{Learner}
 use Rattle.lw_workers.specs.Machines.{KeepsRuns}
+use Rattle.lw_workers.specs.Plain.{HasPlainWords}
 use Rattle.lw_report.specs.Ends.{IsWithoutLearner}
 use Rattle.lw_report.specs.Learnings.{HasModel, HasLargeSuite}
 use Rattle.lw_outside.specs.Streams.{SinkState}
@@ -30,6 +35,11 @@ drawn_outputs = codes "0" ∷ codes "1" ∷ []
 
 abbrev pub drawn_naming : Naming
 drawn_naming = record { names = drawn_outputs; brought = None }
+
+-- the plain learner of the machine that is drawn comes to this model after so many refinements, where a table is learned by the
+-- W-method, and the words of the recorded answers are those taken from its batches in turn
+abbrev pub IsTriedPlainly : TrialValues → Rows → ℕ → List KeptAnswer → Type 0
+IsTriedPlainly v model refinements kept = v.learner ≡ kind.Table → v.suite ≡ method.W → HasPlainWords (plain_task v.inputs (drawn_machine v).rows 1 1024) [] model refinements kept
 
 -- what is reported of a trial: the arguments; the states of the model, the refinements and the number of the recorded
 -- answers; and that the two are equal exactly where the model is the canonical form of the machine that was drawn
@@ -74,6 +84,9 @@ pub record IsTrialRun (v : TrialValues) (out_before out_now : SinkState) (err_be
   pub quiet : IsTrial end.outcome → (out_now.faults ≡ out_before.faults) × (err_now.faults ≡ err_before.faults)
   -- the recorded answers are runs of the instances of that machine
   pub kept : KeepsRuns (drawn_machine v) v.workers [] end.kept.answers
+  -- a table that is learned by the W-method has the model, the refinements and the words of the drawn machine's plain learner,
+  -- at every number of instances and in every schedule
+  pub plainly : IfSome end.model (λ h. IsTriedPlainly v h.rows end.refinements end.kept.answers)
   -- the outputs are those of the machine that was drawn; there are none only where memory ran out before anything was kept
   pub outputs : IfSome end.outputs (λ named. named ≡ drawn_naming)
   pub unnamed : end.outputs ≡ None → (end.outcome ≡ NoMemory) × (end.kept.answers ≡ [])

@@ -7,7 +7,7 @@ ghost use Rattle.lw_rounds.specs.Learner.{refinements_of};
 ghost use Rattle.lw_chunks.specs.Size.{suite_size, greatest_suite};
 ghost use Rattle.lw_workers.specs.Machines.{KeepsRuns};
 ghost use Rattle.lw_report.specs.Outcomes.{status_of};
-ghost use Rattle.lw_trial.specs.TrialRun.{IsTrialRun, drawn_machine, drawn_naming, drawn_outputs};
+ghost use Rattle.lw_trial.specs.TrialRun.{IsTrialRun, IsTriedPlainly, drawn_machine, drawn_naming, drawn_outputs};
 
 use crate::telling::tell;
 use crate::{TrialArguments, drawn};
@@ -91,6 +91,8 @@ fn report<O: Sink, E: Sink>(
         (answers_of found.kept.answers) found.learned.model }
     requires kept { KeepsRuns (drawn_machine arguments.now) arguments.now.workers []
         found.kept.answers }
+    requires plainly { IsTriedPlainly arguments.now found.learned.model.rows
+        (refinements_of found.learned.learner) found.kept.answers }
     requires named { found.names ≡ drawn_naming }
     requires reached { suite_size arguments.now.states arguments.now.inputs 1 ≤ greatest_suite →
         refinements_of found.learned.learner < arguments.now.states }

@@ -1,4 +1,4 @@
-use Rattle.std.proofs.Common.{◌≡◌, ◌∙◌, List, Ok, Err, IfOk, IfSome, Option, Result, Some, ap, refl, subst, sym}
+use Rattle.std.proofs.Common.{◌∙◌, List, [], Ok, Err, IfOk, Result, Some, ap, subst}
 use Rattle.lw_words.specs.Word.{answers_of}
 use Rattle.lw_words.specs.declared.kept.KeptAnswer.{KeptAnswer}
 use Rattle.lw_mealy.specs.Machine.{MealyMachine}
@@ -6,12 +6,12 @@ use Rattle.lw_chunks.specs.declared.method.Method.{Method}
 use Rattle.lw_rounds.specs.Learned.{IsEnoughFor}
 use Rattle.lw_names.specs.Naming.{Naming}
 use Rattle.lw_workers.specs.Machines.{KeepsRuns}
+use Rattle.lw_workers.specs.Plain.{RunsAsPlain}
 use Rattle.lw_rounds.specs.declared.learned.Learned.{Learned}
 use Rattle.lw_rounds.specs.declared.stops.LearnStop.{LearnStop}
 use Rattle.lw_report.specs.Outcomes.{StandsOrWants}
 use Rattle.lw_report.specs.declared.outcome.Outcome.{Outcome}
-use Rattle.lw_trial.specs.TrialRun.{drawn_naming}
-use Rattle.lw_trial.proofs.RunLemmas.{HasCome, few_refinements, of_drawn, stopped_run}
+use Rattle.lw_trial.proofs.RunLemmas.{HasCome, few_refinements, of_drawn, plain_drawn, plain_tried, stopped_run}
 use Rattle.lw_trial.proofs.command.learn.Goals as goal
 
 pub report-requires-clause-reached : goal.report-requires-clause-reached
@@ -28,6 +28,23 @@ report-requires-clause-reached g c =
     } in
     let ok = subst (λ (r : Result Learned LearnStop). HasCome c.args.drawn.now.machine c.workers.result kept r) c.in-Ok.is all in
     few_refinements v kept c.in-Ok.learned (of_drawn v c.args.drawn.now.machine c.workers.result kept (Ok c.in-Ok.learned) c.requires.machine c.workers.ensures.value ok)
+
+pub report-requires-clause-plainly : goal.report-requires-clause-plainly
+report-requires-clause-plainly g c =
+    let v = c.args.arguments.now in
+    let came = c.learn_machine-learned.ensures in
+    let kept = c.learn_machine-learned.result.kept.answers in
+    let all : HasCome c.args.drawn.now.machine c.workers.result kept c.learn_machine-learned.result.learned = record {
+      within = c.requires.complete;
+      runs = subst (λ (prior : List KeptAnswer). KeepsRuns c.args.drawn.now.machine c.workers.result prior kept) c.new.ensures.kept came.kept;
+      stops = came.stops;
+      caused = came.caused;
+      reached = came.reached;
+    } in
+    let ok = subst (λ (r : Result Learned LearnStop). HasCome c.args.drawn.now.machine c.workers.result kept r) c.in-Ok.is all in
+    let has = of_drawn v c.args.drawn.now.machine c.workers.result kept (Ok c.in-Ok.learned) c.requires.machine c.workers.ensures.value ok in
+    let runs = plain_drawn v c.learner.result c.suite.result c.args.drawn.now.machine.inputs c.new-2.result c.learn_machine-learned.result.learned c.new.result.kept kept c.learner.ensures c.suite.ensures (ap (λ (m : MealyMachine). m.inputs) c.requires.machine) c.new-2.ensures c.new.ensures.kept came.plainly in
+    plain_tried v kept c.in-Ok.learned has (subst (λ (r : Result Learned LearnStop). RunsAsPlain v.learner v.suite v.inputs 1 1024 [] r [] kept) c.in-Ok.is runs)
 
 pub report-requires-clause-enough : goal.report-requires-clause-enough
 report-requires-clause-enough g c =

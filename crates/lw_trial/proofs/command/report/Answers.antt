@@ -34,6 +34,7 @@ returns-in-Ok-clause-ran g c =
       runs = c.requires.kept;
       learned = c.requires.learned;
       enough = c.requires.enough;
+      plainly = c.requires.plainly;
       reached = c.requires.reached;
     } in
     let told = subst (λ (m : MealyMachine). IsToldOf v m h (refinements_of learner) (length kept) c.in-Ok.tried) c.requires.machine c.in-Ok.ensures.told in
@@ -65,6 +66,7 @@ returns-in-Err-clause-ran g c =
       runs = c.requires.kept;
       learned = c.requires.learned;
       enough = c.requires.enough;
+      plainly = c.requires.plainly;
       reached = c.requires.reached;
     } in
     let stands = subst (λ (x : Outcome). StandsOrWants x now) c.from.ensures c.say-outcome.ensures.outcome in
