@@ -34,7 +34,7 @@ use Rattle.lw_report.specs.declared.outcome.Outcome.TheVariants.{Learned, Trial,
 use Rattle.lw_check.specs.CheckRun.{IsCheckRun}
 use Rattle.lw_check.specs.Decision.{IsFixed, Pair}
 use Rattle.lw_learn.specs.Arguments.{LearnValues}
-use Rattle.lw_learn.specs.Asking.{IsWordless, IsWordlessTask, ReadsWords}
+use Rattle.lw_learn.specs.Asking.{IsWordless, IsWordlessTask, ReadsWords, SaysWords}
 use Rattle.lw_learn.specs.Ending.{Carries, EndsRead, EndsUnread, end_outputs}
 use Rattle.lw_names.specs.Naming.{Naming}
 use Rattle.lw_learn.specs.Findings.{IsOfSystem}
@@ -82,14 +82,15 @@ not_wanted why outcome (inl is) not learned = not (subst IsLearnedOutcome is lea
 not_wanted why outcome (inr wants) not learned = subst IsLearnedOutcome wants.1 learned
 
 -- a model that is told is the one that was learned
-model_is : (k : Goal) (model : MealyMachine) (count : ℕ) (h : MealyMachine) (refinements : ℕ) → ModelIsTold k model count (Learned h refinements) → model ≡ h
-model_is aim.Machine model count h refinements (inl told) = let same : Learned model count ≡ Learned h refinements = told in cc
+model_is : (k : Goal) (model : MealyMachine) (count : ℕ) (h : MealyMachine) (refinements : ℕ) → ModelIsTold k model count (Learned h refinements) → (model ≡ h) × (count ≡ refinements)
+model_is aim.Machine model count h refinements (inl told) = let same : Learned model count ≡ Learned h refinements = told in (cc, cc)
 model_is aim.Acceptor model count h refinements (inl told) = let wrong : Accepted (length model.rows) count ≡ Learned h refinements = told in absurd (cc)
 model_is k model count h refinements (inr none) = let wrong : Learned h refinements ≡ NotAcceptor none.1.0 none.1.1 = none.1.2 in absurd (cc)
 
-carried : (k : Goal) (learned : Result Found LearnStop) (end : End) → Carries k learned end → (h : MealyMachine) (refinements : ℕ) → end.outcome ≡ Learned h refinements → end.model ≡ Some h
+carried : (k : Goal) (learned : Result Found LearnStop) (end : End) → Carries k learned end → (h : MealyMachine) (refinements : ℕ) → end.outcome ≡ Learned h refinements → (end.model ≡ Some h) × (refinements ≡ end.refinements)
 carried k (Ok l) end c h refinements is =
-    c.0 ∙ ap (λ (m : MealyMachine). Some m) (model_is k l.model (refinements_of l.learner) h refinements (subst (ModelIsTold k l.model (refinements_of l.learner)) is c.3))
+    let same = model_is k l.model (refinements_of l.learner) h refinements (subst (ModelIsTold k l.model (refinements_of l.learner)) is c.3) in
+    (c.0 ∙ ap (λ (m : MealyMachine). Some m) same.0, sym same.1 ∙ sym c.2)
 carried k (Err stop) end c h refinements is = absurd (not_wanted (learn_outcome stop) end.outcome c.2 (not_learned stop) (subst IsLearnedOutcome (sym is) tt))
 
 -- why no learning began, and what is kept then
@@ -250,6 +251,7 @@ module _ (a : LearnValues) (before now : WorldState) (end : End) (run : IsLearnR
       }
 
   keeps : KeepsLearned a before now end ⊎ AsksNothing a before now end
+  unfolding task_of
   keeps = ⊎_elim (λ (u : Unread). inr (nothing u)) (λ (r : Read). inl (of_read r)) run.ends
     where
       of_read : Read → KeepsLearned a before now end
@@ -260,7 +262,7 @@ module _ (a : LearnValues) (before now : WorldState) (end : End) (run : IsLearnR
         keeps = keeps_system a r.system r.prior before.spawner now.spawner r.learned.learned end.kept.answers r.learned.naming.names end.outputs (end_named (declared_of r.system) end.kept.answers r.learned.naming end.outputs r.learned.told.told.outputs) r.learned.found;
         letters = if_some _ (λ h. h.inputs ≡ length (letters_of r.system)) end.model (λ h has. has.certified.inputs) r.learned.model;
         words = r.words;
-        asked = (r.between, r.middle.reads, r.asked);
+        asked = subst (λ (reads : List File). SaysWords a (letters_of r.system) before.files.holds r.between reads r.words) (sym (r.learned.told.told.reads ∙ r.learned.told.saved.reads)) r.asked;
         plainly = r.plainly;
       }
 

@@ -63,9 +63,11 @@ pub record ModelIsRight (k : ℕ) (ks : List Answer) (h : MealyMachine) : Type 0
   pub gives : Gives h.rows ks
   pub sure : Sure h.inputs h.rows ks k
 
--- the model that is reported is the one that is handed back, and that is right by the recorded answers
+-- the model that is reported is the one that is handed back, after as many refinements, and that is right by the
+-- recorded answers
 pub record HandsModel (k : ℕ) (end : End) : Type 0 where
-  pub told : (h : MealyMachine) (refinements : ℕ) → end.outcome ≡ Learned h refinements → end.model ≡ Some h
+  pub told : (h : MealyMachine) (refinements : ℕ) → end.outcome ≡ Learned h refinements →
+      (end.model ≡ Some h) × (refinements ≡ end.refinements)
   pub right : IfSome end.model (ModelIsRight k (answers_of end.kept.answers))
 
 -- a learned model is right, of `learn` for the extra states of its arguments, and of `trial` for one; other calls have none
@@ -153,7 +155,7 @@ pub record KeepsLearned (a : LearnValues) (before now : WorldState) (end : End) 
   pub keeps : KeepsSystem a.workers system end.outputs prior before.spawner now.spawner end.kept.answers
   pub letters : IsOverLetters (length (letters_of system)) end.model
   pub words : List (List ℕ)
-  pub asked : (between : List File) × (after : List File) × SaysWords a (letters_of system) before.files.holds between after words
+  pub asked : SaysWords a (letters_of system) before.files.holds task.between now.files.reads words
   pub plainly : EndsPlainly a (length (letters_of system)) words prior end
 
 -- a file was refused, earlier answers clash, or memory ran out
