@@ -34,6 +34,8 @@ import time
 from typing import Any, BinaryIO, Iterator, List, Optional, Sequence, Tuple, Union
 
 LONGEST_NAME, LONGEST_LINE = 64, 256
+# The longest line of a program that is read, with its end, and what stands for a longer one: no line has a line feed in it.
+LONGEST_SAID, TOO_LONG = 1 << 20, b"\n"
 NAME = re.compile(r"[!-~]{1,64}")
 # How long a program may take to end, once it was asked to or has closed its output; and how often one that is waited for is looked
 # at: a program that has ended may have left its output to another one, so that its end isn't seen there.
@@ -394,6 +396,8 @@ class ChildAdapter(Adapter):
                 line = None
             if line is None:
                 self.end(self.program.ending())
+            if line == TOO_LONG:
+                raise Stop("the program said a line of more than {} bytes".format(LONGEST_SAID))
             return line.decode("utf-8", "surrogateescape")
 
     def end(self, how: str) -> None:
@@ -405,9 +409,13 @@ class ChildAdapter(Adapter):
 
 
 def read_lines(stream: BinaryIO, lines: "queue.SimpleQueue[Optional[bytes]]") -> None:
-    """Puts each line of a stream into a queue, without its end, and None after the last."""
+    """Puts each line of a stream into a queue, without its end, and None after the last. Nothing is read behind one that is too
+    long."""
     with io.BufferedReader(stream) as reader:
-        for line in iter(lambda: reader.readline(65536), b""):
+        for line in iter(lambda: reader.readline(LONGEST_SAID + 1), b""):
+            if len(line) > LONGEST_SAID:
+                lines.put(TOO_LONG)
+                return
             line = line[:-1] if line.endswith(b"\n") else line
             lines.put(line[:-1] if line.endswith(b"\r") else line)
     lines.put(None)
