@@ -73,6 +73,13 @@ fn without_suite(model: Mealy, fault: SuiteFault) -> Result<Round, NoMemory>
     }
 }
 
+/// How many states more than its model a machine may have, and how many a model has at most.
+#[derive(Clone, Copy)]
+struct Limits {
+    extra: u8,
+    most: u16,
+}
+
 /// The end of a round: the suite of a machine's canonical form is tested.
 fn test(
     alloc: Global,
@@ -80,25 +87,26 @@ fn test(
     h: &Mealy,
     model: Mealy,
     suite: &mut Suite,
-    extra: u8,
-    most: u16,
+    limits: Limits,
     table: &mut Table,
 ) -> Result<Round, NoMemory>
     requires over { IsOver m.now.inputs table.old }
-    requires few { length table.old.access ≤ most }
+    requires few { length table.old.access ≤ limits.most }
     requires rows { h.now.rows ≡ machine_of m.now.inputs m.now.rows table.old }
     requires same_letters { h.now.inputs ≡ m.now.inputs }
-    requires ready { IsUnrefuted (task_of m.now extra most) table.old }
-    requires made { IsSuiteFor (task_of m.now extra most) h.now.rows model.rows suite.old }
+    requires ready { IsUnrefuted (task_of m.now limits.extra limits.most) table.old }
+    requires made { IsSuiteFor (task_of m.now limits.extra limits.most) h.now.rows model.rows
+        suite.old }
     requires alike { IsAlike m.now model }
-    ensures round { IfOk result (IsRound (task_of m.now extra most) m.now table.old table.new) }
+    ensures round { IfOk result
+        (IsRound (task_of m.now limits.extra limits.most) m.now table.old table.new) }
     ensures over { OnOk result (IsOver m.now.inputs table.new) }
-    ensures few { OnOk result (length table.new.access ≤ most) }
+    ensures few { OnOk result (length table.new.access ≤ limits.most) }
 {
     suite_is_of_words();
     match test_suite(alloc, m, h, suite, table)? {
         Some(word) => {
-            refine(alloc, m, h, table, &word, most)?;
+            refine(alloc, m, h, table, &word, limits.most)?;
             Ok(Round::Refined)
         }
         None => Ok(Round::Sure(model)),
@@ -130,7 +138,10 @@ fn round_with(
     }
     let model = canonical(alloc, h)?;
     match Suite::new(alloc, &model, extra) {
-        Ok(mut suite) => test(alloc, m, h, model, &mut suite, extra, most, table),
+        Ok(mut suite) => {
+            let limits = Limits { extra, most };
+            test(alloc, m, h, model, &mut suite, limits, table)
+        }
         Err(fault) => without_suite(model, fault),
     }
 }
