@@ -76,9 +76,9 @@ impl<R: AllocGlobal> RealSpawner<R> {
 impl<R> RealSpawner<R> {
     /// For the proof alone: each link that was retired was started before.
     fn keeps_earlier(&self)
-        ensures { All (λ (r : LinkState). r.number < self.now.started) (map (λ r. told_pipes r.0.number
-            r.0.faults r.0.output.ends r.0.input.taken.items r.0.output.given.items)
-            self.now.retired.items) }
+        ensures { All (λ (r : LinkState). r.number < self.now.started)
+            (map (λ r. told_pipes r.0.number r.0.faults r.0.output.ends r.0.input.taken.items
+            r.0.output.given.items) self.now.retired.items) }
     {
         let _ = &self.started;
     }

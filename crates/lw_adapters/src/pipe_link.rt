@@ -26,7 +26,8 @@ impl<W: Write, R: Read> PipeLink<W, R> {
         ensures number { result.number ≡ number }
         ensures faults { result.faults ≡ 0 }
         ensures ends { result.output.ends ≡ 0 }
-        ensures untouched { (bytes_of result.input.taken.items ≡ []) × (bytes_of result.output.given.items ≡ []) }
+        ensures untouched { (bytes_of result.input.taken.items ≡ []) ×
+            (bytes_of result.output.given.items ≡ []) }
     {
         PipeLink::watched(number, input, output, None)
     }
@@ -43,7 +44,8 @@ impl<W: Write, R: Read> PipeLink<W, R> {
         ensures number { result.number ≡ number }
         ensures faults { result.faults ≡ 0 }
         ensures ends { result.output.ends ≡ 0 }
-        ensures untouched { (bytes_of result.input.taken.items ≡ []) × (bytes_of result.output.given.items ≡ []) }
+        ensures untouched { (bytes_of result.input.taken.items ≡ []) ×
+            (bytes_of result.output.given.items ≡ []) }
     {
         PipeLink {
             number,

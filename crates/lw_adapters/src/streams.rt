@@ -30,7 +30,8 @@ fn write_some<W: Write>(stream: &mut W, bytes: &[u8]) -> io::Result<usize>
 /// Reads what has come, as much as fits, and again where a signal came between. Waits only where nothing has.
 fn read_some<S: Read>(stream: &mut S, buffer: &mut [u8]) -> io::Result<usize>
     ensures bound { ReadsAtMost result buffer.new }
-    ensures bytes { ReadConsumes (S.remaining stream.old) (S.remaining stream.new) result buffer.new }
+    ensures bytes { ReadConsumes (S.remaining stream.old) (S.remaining stream.new) result
+        buffer.new }
     ensures long { length buffer.new ≡ length buffer.old }
 {
     for _ in 0..u64::MAX {
@@ -96,8 +97,8 @@ impl<W: Write> Sink for Stream<W> {
             (told_output self.new.taken.items self.new.faults) result }
 
         // What it took is what was appended to the stream, and the stream began as it did.
-        ensures bytes { WriteAppends (W.contents self.old.stream) (W.contents self.new.stream) result
-            bytes.now }
+        ensures bytes { WriteAppends (W.contents self.old.stream) (W.contents self.new.stream)
+            result bytes.now }
         ensures start { self.new.start ≡ self.old.start }
     {
         match write_some(&mut self.stream, bytes) {

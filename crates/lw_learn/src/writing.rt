@@ -335,8 +335,9 @@ pub(crate) fn tell_model<F: Files, O: Sink, E: Sink>(
     ensures said { ¬ CountedFault (E.state err.old).faults (E.state err.new).faults →
         TakesAll (told_text model.now.machine model.now.kept.answers arguments.now.extra result)
         (E.state err.old).taken (E.state err.new).taken }
-    ensures part { TakesInTurn (told_text model.now.machine model.now.kept.answers
-        arguments.now.extra report.outcome) (told_text model.now.machine model.now.kept.answers arguments.now.extra result)
+    ensures part { TakesInTurn
+        (told_text model.now.machine model.now.kept.answers arguments.now.extra report.outcome)
+        (told_text model.now.machine model.now.kept.answers arguments.now.extra result)
         (E.state err.old).taken (E.state err.new).taken }
     ensures reads { (F.state files.new).reads ≡ (F.state files.old).reads }
     ensures quiet { IsLearnedOutcome result →

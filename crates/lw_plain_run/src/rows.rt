@@ -73,7 +73,8 @@ pub fn have_same_outputs(m: &Mealy, one: u16, n: &Mealy, other: u16, letters: &[
     requires other { other < length n.now.rows }
     requires letters { IsWord m.now.inputs letters.now }
     requires same_letters { n.now.inputs ≡ m.now.inputs }
-    ensures { result ≡ bytes_eq (out m.now.rows one letters.now) (out n.now.rows other letters.now) }
+    ensures { result ≡
+        bytes_eq (out m.now.rows one letters.now) (out n.now.rows other letters.now) }
 {
     let mut one = one;
     let mut other = other;

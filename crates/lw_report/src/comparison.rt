@@ -44,7 +44,8 @@ fn put_joined(text: &mut String, names: &[String]) -> Result<(), NoMemory>
 
 /// Appends a list of names, joined by one blank.
 fn put_list(text: &mut String, names: &Texts) -> Result<(), NoMemory>
-    ensures { OnOk result (string_bytes text.new ≡ string_bytes text.old ++ joined_names names.now) }
+    ensures { OnOk result
+        (string_bytes text.new ≡ string_bytes text.old ++ joined_names names.now) }
 {
     put_joined(text, names.get().as_slice())
 }

@@ -146,7 +146,8 @@ impl Arrivals {
         requires new { new + 1 < length self.old.lists }
         requires free { (k : ℕ) → first ≤ k → k < first + count → owner_of self.old k ≡ None }
         requires inside { 0 < state → edge < first }
-        ensures { HasSplitState self.old self.new state edge number (new + 1) first (first + count) }
+        ensures { HasSplitState self.old self.new state edge number (new + 1) first
+            (first + count) }
     {
         self.split(state, edge);
         self.push_state(number, new, first, count);

@@ -80,7 +80,8 @@ fn names_of(alloc: Global, text: &str) -> Result<Vec<&str>, AllocError>
 
 /// The word of these names.
 fn word_from(alloc: Global, letters: &Names, names: &[&str]) -> Result<Word, LetterStop>
-    ensures ok { IfOk result (λ w. word_of_names letters.now (map (λ n. n.now) names.now) ≡ Some w) }
+    ensures ok { IfOk result
+        (λ w. word_of_names letters.now (map (λ n. n.now) names.now) ≡ Some w) }
     ensures word { IfOk result (IsWord (length letters.now)) }
     ensures all { IfOk result (λ w. All (Contains letters.now) (map (λ n. n.now) names.now)) }
     ensures err { (place : ℕ) → result ≡ Err (Stop.Unknown place) →
