@@ -28,7 +28,7 @@ pub struct Kind {
 }
 
 impl Kind {
-    /// A machine of so many states, each of whose letters leads on, over a ring with chords.
+    /// A machine of this many states, each of whose letters leads on, over a ring with chords.
     pub fn new(alloc: Global, states: u16, turns: u64) -> Result<Kind, NoMemory> {
         let machine = Mealy::new(alloc, 4, 2, rows(alloc, states)?).map_err(|_| NoMemory)?;
         let names = names(alloc)?;

@@ -43,7 +43,7 @@ fn turns_a_micro<R: Clock>(rt: &R) -> u64 {
     (turns / took).max(noise % 2)
 }
 
-/// How long a pool of so many sessions takes for so many words, in microseconds, and how many answers it then has.
+/// How long a pool of this many sessions takes for this many words, in microseconds, and how many answers it then has.
 fn settled<R: Threads + Wait + Clock + Sync + Copy + Drop>(
     rt: R,
     alloc: Global,
@@ -69,7 +69,7 @@ fn settled<R: Threads + Wait + Clock + Sync + Copy + Drop>(
 /// A number of sessions, and what came of them: microseconds, and how many answers are kept.
 type Row = (u32, u64, usize);
 
-/// What pools of 1, 2, 4 and 8 sessions take for so many words over systems whose steps take so many microseconds.
+/// What pools of 1, 2, 4 and 8 sessions take for this many words over systems whose steps take this many microseconds.
 fn rows<R: Threads + Wait + Clock + Sync + Copy + Drop>(
     rt: R,
     alloc: Global,

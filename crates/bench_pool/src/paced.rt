@@ -5,7 +5,7 @@ use lw_names::OutName;
 use lw_sul::{Sul, TableSul};
 use lw_words::SulStop;
 
-/// A table that counts so many turns of a loop in each step, as a system that is busy for a while.
+/// A table that counts this many turns of a loop in each step, as a system that is busy for a while.
 #[derive(Drop)]
 pub struct Paced {
     table: TableSul,
@@ -25,7 +25,7 @@ impl Paced {
     }
 }
 
-/// The number that comes of so many turns of a loop (xorshift, Marsaglia 2003).
+/// The number that comes of this many turns of a loop (xorshift, Marsaglia 2003).
 pub fn spun(noise: u64, turns: u64) -> u64 {
     let mut noise = noise;
     for _ in 0..turns {

@@ -1,4 +1,4 @@
--- Tables whose words are over so many letters.
+-- Tables whose words are over this many letters.
 use Rattle.std.specs.Prelude.{ℕ, ◌<◌, length}
 use Rattle.std.specs.List.{All}
 use Rattle.lw_words.specs.Word.{IsWord}

@@ -64,12 +64,12 @@ pub record FailsWords (m h : Rows) (words : List (List ℕ)) (front : List ℕ) 
   pub here : IsShortest m h (word_at words number) front
   pub chunks : asked ≡ first_chunks words (number / 512 + 1)
 
--- machine h gives all words of a list, and all chunks were asked
+-- machine h agrees with the machine on all words of a list, and all chunks were asked
 pub record PassesWords (m h : Rows) (words : List (List ℕ)) (asked : List (List (List ℕ))) : Type 0 where
   pub agrees : All (AgreesOn m h) words
   pub chunks : asked ≡ first_chunks words ((length words + 511) / 512)
 
--- the table is closed, and its machine gives all that was asked for
+-- the table is closed, and its machine agrees with the machine on all that was asked for
 pub record IsUnrefuted (task : Task) (t : PlainTable) : Type 0 where
   pub closed : new_row_of task t ≡ None
   pub gives : (w : List ℕ) → ¬ Reveals task.machine (hypothesis_of task t) (asked_words t.batches) w

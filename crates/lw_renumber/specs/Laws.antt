@@ -115,7 +115,7 @@ OutputsOccur = (a b k n : ℕ) (ks : List Answer) (model : MealyMachine) → Are
 abbrev pub renamed_task : (ℕ → ℕ) → Task → Task
 renamed_task f task = record { letters = task.letters; machine = renamed_rows f task.machine; extra = task.extra; most = task.most }
 
--- the plain learner asks the same of a renamed machine, and comes to the renamed model
+-- the plain learner asks the same of a renamed machine, and ends with the renamed model
 abbrev pub RenamedLearnsPlainly : Type 0
 RenamedLearnsPlainly = (f g : ℕ → ℕ) (task : Task) (given : List (List ℕ)) (model : Rows) (refinements : ℕ) (batches : List (List (List ℕ)))
     → Renames f g → IsMachine task.letters task.machine → All (IsWord task.letters) given

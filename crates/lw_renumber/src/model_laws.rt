@@ -46,7 +46,7 @@ pub fn outputs_occur()
     ensures { OutputsOccur }
 {}
 
-/// The plain learner asks the same of a renamed machine, and comes to the renamed model.
+/// The plain learner asks the same of a renamed machine, and ends with the renamed model.
 pub fn renamed_learns_plainly()
     ensures { RenamedLearnsPlainly }
 {}

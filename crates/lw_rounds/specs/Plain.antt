@@ -1,4 +1,4 @@
--- What a table that is learned by the W-method comes to by the machine alone: what the plain learner does (lw_plain).
+-- The result of a table that is learned by the W-method, by the machine alone: that of the plain learner (lw_plain).
 use Rattle.std.specs.Prelude.{◌≡◌, ℕ, List}
 use Rattle.lw_words.specs.declared.kept.KeptAnswer.{KeptAnswer}
 use Rattle.lw_mealy.specs.Machine.{Rows}
@@ -14,7 +14,7 @@ use Rattle.lw_rounds.specs.declared.learner.Kind.TheVariants as kind
 abbrev pub plain_task : ℕ → Rows → ℕ → ℕ → Task
 plain_task a m k most = record { letters = a; machine = m; extra = k; most = most }
 
--- the plain learner comes to this model, and behind those that were asked already its batches were asked in turn
+-- the plain learner ends with this model, and after those that were asked already its batches were asked in turn
 pub record IsLearnedPlainly (task : Task) (given : List (List ℕ)) (model : Rows) (refinements : ℕ) (asked : List (List (List ℕ))) (was is : List KeptAnswer) : Type 0 where
   pub batches : List (List (List ℕ))
   pub learns : LearnsPlainly task given model refinements batches

@@ -8,7 +8,7 @@ use Rattle.lw_plain.specs.Table.{PlainTable, close, first_table, first_new, mach
 use Rattle.lw_plain.specs.Turns.{AsksInTurn, IsPlainOracle}
 use Rattle.lw_table.specs.Table.{TableState, IsTable, CellsAreRead, IsClosedTable, IsMachineOf, new_table}
 
--- of rows with so many cells each, the words of the cells that they don't have, row by row
+-- of rows with this many cells each, the words of the cells that they don't have, row by row
 abbrev pub open_cells : List (List ℕ) → List (List ℕ) → List ℕ → List (List ℕ)
 open_cells suffixes [] counts = []
 open_cells suffixes (w ∷ ws) [] = []
@@ -30,7 +30,7 @@ closed_plainly m t asked = close t.inputs m (t.most - length t.access) (plain_of
 abbrev pub refined_plainly : Rows → TableState → List ℕ → List (List (List ℕ)) → PlainTable
 refined_plainly m t suffix asked = close t.inputs m (t.most - length t.access) (with_suffix t.inputs (plain_of t asked) suffix)
 
--- a table comes to this one, whose batches were asked in turn
+-- a table becomes this one, whose batches were asked in turn
 pub record ComesToPlain (m : Rows) (asked : List (List (List ℕ))) (was is : List KeptAnswer) (t : TableState) (plain : PlainTable) : Type 0 where
   pub access : t.access ≡ plain.access
   pub suffixes : t.suffixes ≡ plain.suffixes

@@ -36,7 +36,7 @@ drawn_outputs = codes "0" ∷ codes "1" ∷ []
 abbrev pub drawn_naming : Naming
 drawn_naming = record { names = drawn_outputs; brought = None }
 
--- the plain learner of the machine that is drawn comes to this model after so many refinements, where a table is learned by the
+-- the plain learner of the machine that is drawn ends with this model after this many refinements, where a table is learned by the
 -- W-method, and the words of the recorded answers are those taken from its batches in turn
 abbrev pub IsTriedPlainly : TrialValues → Rows → ℕ → List KeptAnswer → Type 0
 IsTriedPlainly v model refinements kept = v.learner ≡ kind.Table → v.suite ≡ method.W → HasPlainWords (plain_task v.inputs (drawn_machine v).rows 1 1024) [] model refinements kept

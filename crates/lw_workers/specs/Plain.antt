@@ -16,13 +16,13 @@ use Rattle.lw_rounds.specs.declared.learner.Kind.{Kind}
 use Rattle.lw_rounds.specs.declared.learner.Kind.TheVariants as kind
 use Rattle.lw_rounds.specs.declared.stops.LearnStop.{LearnStop}
 
--- the plain learner comes to this model after so many refinements, and the kept words are those that are taken from its batches in turn
+-- the plain learner ends with this model after this many refinements, and the recorded words are those that are taken from its batches in turn
 pub record HasPlainWords (task : Task) (given : List (List ℕ)) (model : Rows) (refinements : ℕ) (kept : List KeptAnswer) : Type 0 where
   pub batches : List (List (List ℕ))
   pub learns : LearnsPlainly task given model refinements batches
   pub taken : AreTakenInTurn [] batches (map (λ k. k.word) kept)
 
--- so it is where a table was learned by the W-method with no prior answers, for each machine that gives all that is kept; these words
+-- so it is where a table was learned by the W-method with no prior answers, for each machine that agrees with all recorded answers; these words
 -- were asked first
 abbrev pub RunsAsPlain : Kind → Method → ℕ → ℕ → ℕ → List (List ℕ) → Result Learned LearnStop → List KeptAnswer → List KeptAnswer → Type 0
 RunsAsPlain of_kind suites a k most given learned prior kept = of_kind ≡ kind.Table → suites ≡ method.W → prior ≡ [] → (m : Rows) → IsMachine a m → Gives m (answers_of kept)

@@ -41,7 +41,7 @@ pub record IsFoundBy (m h : Rows) (access : List (List ℕ)) (w : List ℕ) (pla
 abbrev pub FindsPlainly : Rows → List (List ℕ) → List ℕ → ℕ → OracleState → OracleState → Type 0
 FindsPlainly h access w place before now = (m : Rows) (asked : List (List (List ℕ))) → IsPlainOracle m asked before now → IsFoundBy m h access w place asked before.kept now.kept (search_word m h access (length w) w)
 
--- what is left of a search, after so many tries and between two places, gives the whole
+-- what is left of a search, after this many tries and between two places, gives the whole
 pub record IsSearching (m h : Rows) (access : List (List ℕ)) (w : List ℕ) (low high : ℕ) (asked : List (List (List ℕ))) (was is : List KeptAnswer) : Type 0 where
   pub tries : ℕ
   pub tried : List ℕ

@@ -73,7 +73,7 @@ pub record IsTestedPlainly (m h : Rows) (words : List (List ℕ)) (p : PlainTabl
 abbrev pub TestsPlainly : Rows → List (List ℕ) → Option (List ℕ) → OracleState → OracleState → Type 0
 TestsPlainly h words found before now = (m : Rows) (p : PlainTable) → IsPlainOracle m p.batches before now → IsTestedPlainly m h words p found before.kept now.kept
 
--- so many chunks of them were tested
+-- this many chunks of them were tested
 pub record AreTestedPlainly (m h : Rows) (words left : List (List ℕ)) (p : PlainTable) (was is : List KeptAnswer) : Type 0 where
   pub table : PlainTable
   pub tested : HasTested m h words left p table
@@ -82,7 +82,7 @@ pub record AreTestedPlainly (m h : Rows) (words left : List (List ℕ)) (p : Pla
 abbrev pub TestsOn : Rows → List (List ℕ) → List (List ℕ) → OracleState → OracleState → Type 0
 TestsOn h words left before now = (m : Rows) (p : PlainTable) → IsPlainOracle m p.batches before now → AreTestedPlainly m h words left p before.kept now.kept
 
--- what a test of these words comes to: a word that they find, or the model, where they find none
+-- the result of a test of these words: a word that they find, or the model, where they find none
 abbrev pub TellsPlainly : Rows → List (List ℕ) → MealyMachine → Tested → OracleState → OracleState → Type 0
 TellsPlainly h words model (tested.Differs word) before now = TestsPlainly h words (Some word) before now
 TellsPlainly h words model (tested.Sure sure) before now = (sure ≡ model) × TestsPlainly h words None before now

@@ -9,7 +9,7 @@ use Rattle.lw_table.specs.Plain.{open_cells, plain_of, closed_plainly}
 use Rattle.lw_table.specs.Table.{TableState}
 use Rattle.lw_table.specs.bodies.Rows.{IsRowWord}
 
--- the words of the open cells of the rows from one on, over so many letters, where the rows have so many cells each
+-- the words of the open cells of the rows from one on, over this many letters, where the rows have this many cells each
 abbrev pub open_from : ℕ → List (List ℕ) → List (List ℕ) → List ℕ → ℕ → List (List ℕ)
 open_from a access suffixes counts first = open_cells suffixes (drop first (row_words a access)) (drop first counts)
 
