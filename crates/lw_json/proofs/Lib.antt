@@ -13,5 +13,6 @@ pub mod OneAnswers
 pub mod OneValue
 pub mod RoundTrip
 pub mod SetupFaults
+pub mod TokenLemmas
 pub mod WordTexts
 pub mod WrittenOrder

@@ -4,3 +4,4 @@ pub mod Found
 pub mod MachineParts
 pub mod SetupParts
 pub mod Told
+pub mod Tokens

@@ -2,15 +2,11 @@
 
 ghost use Rattle.std.specs.Prelude.{◌≡◌, ◌≤◌, length, map, IfOk, OnOk};
 ghost use Rattle.std.specs.List.Sorted.{IsPermutation};
-ghost use Rattle.serde_json.specs.View.{view};
-ghost use Rattle.lw_words.specs.Word.{IsNames};
-ghost use Rattle.lw_json.specs.AnswersText.{answer_cmp, answer_data, list_data, answers_data, IsWrittenOrder, IsAnswersText, IsReadInOrder};
-ghost use Rattle.lw_json.specs.KeptOver.{IsKeptOver, AreKeptOver};
+ghost use Rattle.lw_json.specs.AnswersText.{answer_cmp, IsWrittenOrder, IsAnswersText, IsReadInOrder};
+ghost use Rattle.lw_json.specs.KeptOver.{AreKeptOver};
 
-use crate::values::{put_member, put_names};
-use crate::word_writer::word_value;
+use crate::answers_tokens::text_of;
 use lw_words::{Kept, KeptAnswer, Names, NoMemory, shortlex};
-use serde_json::{Map, Value};
 use std::alloc::{AllocError, Global};
 use std::cmp::Ordering;
 
@@ -42,66 +38,6 @@ fn sort(all: &mut Vec<&KeptAnswer>) -> Result<(), AllocError>
     all.sort_by(|a, b| compare(*a, *b))
 }
 
-/// An answer as a list of its instance, its run and its two texts.
-fn answer_value(
-    alloc: Global,
-    answer: &KeptAnswer,
-    inputs: &Names,
-    outputs: &Names,
-) -> Result<Value, NoMemory>
-    requires { IsKeptOver (length inputs.now) (length outputs.now) answer.now }
-    ensures { IfOk result (λ v. view v ≡ answer_data inputs.now outputs.now answer.now) }
-{
-    let word = word_value(alloc, inputs, answer.word.as_slice())?;
-    let outs = word_value(alloc, outputs, answer.outs.as_slice())?;
-    let mut parts = Vec::with_capacity(alloc, 4)?;
-    parts.push_reserved(Value::from(answer.instance));
-    parts.push_reserved(Value::from(answer.run));
-    parts.push_reserved(word);
-    parts.push_reserved(outs);
-    Ok(Value::Array(parts))
-}
-
-/// The answers as a list.
-fn list_value(
-    alloc: Global,
-    answers: &[&KeptAnswer],
-    inputs: &Names,
-    outputs: &Names,
-) -> Result<Value, NoMemory>
-    requires { AreKeptOver (length inputs.now) (length outputs.now) (map (λ k. k.now) answers.now) }
-    ensures { IfOk result
-        (λ v. view v ≡ list_data inputs.now outputs.now (map (λ k. k.now) answers.now)) }
-{
-    let mut items = Vec::with_capacity(alloc, answers.len())?;
-    for answer in answers {
-        items.push(answer_value(alloc, *answer, inputs, outputs)?)?;
-    }
-    Ok(Value::Array(items))
-}
-
-/// The value of an answers file.
-fn file_value(
-    alloc: Global,
-    answers: &[&KeptAnswer],
-    inputs: &Names,
-    outputs: &Names,
-) -> Result<Value, NoMemory>
-    requires { AreKeptOver (length inputs.now) (length outputs.now) (map (λ k. k.now) answers.now) }
-    ensures value { IfOk result
-        (λ v. view v ≡ answers_data inputs.now outputs.now (map (λ k. k.now) answers.now)) }
-    ensures inputs { OnOk result (IsNames inputs.now) }
-    ensures outputs { OnOk result (IsNames outputs.now) }
-{
-    let mut members = Map::new(alloc);
-    let list = list_value(alloc, answers, inputs, outputs)?;
-    put_member(alloc, &mut members, "answers", list)?;
-    put_member(alloc, &mut members, "format", Value::from(2_u64))?;
-    put_names(alloc, &mut members, "inputs", inputs)?;
-    put_names(alloc, &mut members, "outputs", outputs)?;
-    Ok(Value::Object(members))
-}
-
 /// The one text of answers, in format 2: their compact JSON text and a line feed. The answers stand in shortlex
 /// order of their words, then by instance, then by run, then as in the list.
 pub fn answers_text(
@@ -119,7 +55,7 @@ pub fn answers_text(
 {
     let mut answers = references(alloc, kept)?;
     sort(&mut answers)?;
-    let mut text = file_value(alloc, &answers, inputs, outputs)?.to_vec(alloc)?;
+    let mut text = text_of(alloc, &answers, inputs, outputs)?;
     text.push(b'\n')?;
     Ok(text)
 }

@@ -3,6 +3,7 @@
 
 mod answer_shapes;
 mod answers_reader;
+mod answers_tokens;
 mod answers_writer;
 mod fault;
 mod files;
@@ -16,7 +17,6 @@ mod setup;
 mod setup_reader;
 mod values;
 mod word_reader;
-mod word_writer;
 
 pub use answers_reader::read_answers;
 pub use answers_writer::answers_text;
