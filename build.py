@@ -5,6 +5,7 @@ long they take. Ends with status 0 where the program is built."""
 import functools
 import os
 import shutil
+import signal
 import subprocess
 import sys
 import tempfile
@@ -34,6 +35,9 @@ def kit():
     sys.path.insert(0, os.path.dirname(os.path.realpath(rt)))
     import rtlib
 
+    # What ends the checks with this script is begun by the main thread, and Ctrl-C doesn't wait for the others.
+    rtlib.guarded()
+    signal.signal(signal.SIGINT, signal.SIG_DFL)
     for name in ("stamp", "below"):
         setattr(rtlib.Crate, name, functools.lru_cache(maxsize=None)(getattr(rtlib.Crate, name)))
     return rtlib
