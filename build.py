@@ -3,6 +3,7 @@
 there are processors and memory for. Each line on standard error names a crate that is done, how many are left, and about how
 long they take. Ends with status 0 where the program is built."""
 import functools
+import hashlib
 import os
 import shutil
 import signal
@@ -43,13 +44,26 @@ def kit():
     return rtlib
 
 
+def files(crate):
+    """The files of a crate, in an order that is always the same."""
+    for part in ("src", "specs", "proofs"):
+        for folder, folders, names in os.walk(f"{crate.folder}/{part}"):
+            folders.sort()
+            yield from (f"{folder}/{name}" for name in sorted(names))
+
+
 def size(crate):
     """What a crate weighs: the bytes of its files, and what every check takes."""
-    found = 20_000
-    for part in ("src", "specs", "proofs"):
-        for folder, _, names in os.walk(f"{crate.folder}/{part}"):
-            found += sum(os.path.getsize(f"{folder}/{name}") for name in names)
-    return found
+    return 20_000 + sum(map(os.path.getsize, files(crate)))
+
+
+def own_sum(crate):
+    """A sum of the files of a crate."""
+    found = hashlib.sha256()
+    for name in files(crate):
+        with open(name, "rb") as it:
+            found.update(repr((name, it.read())).encode())
+    return found.digest()
 
 
 def processors():
@@ -65,6 +79,7 @@ class Build:
     def __init__(self, crates):
         self.left = {*crates}
         self.weights = {crate: size(crate) for crate in crates}
+        self.sums = {crate: own_sum(crate) for crate in crates}
         self.all, self.begun = sum(self.weights.values()), time.monotonic()
         self.behind = self.ways(crates)
 
@@ -89,40 +104,41 @@ class Build:
         tell(f"{crate.name} is proved; left: {count(len(self.left), 'crate')}, about {count(round(seconds / 60), 'minute')}")
 
 
-def prove(crate, jobs):
-    """Proves a crate and builds its library; what was said where that failed."""
+def prove(crate, jobs, own):
+    """Proves a crate and builds its library; what was said where that failed. The kit's sums are those of the start, so a library
+    of sources that changed since then is dropped: `own` is what they were."""
     with tempfile.TemporaryFile("w+", errors="replace") as crate.out:
-        if not crate.build_rlib(["--jobs", str(jobs)], anew=False):
+        failed = crate.build_rlib(["--jobs", str(jobs)], anew=False)
+        if not failed and own_sum(crate) == own:
             return None
+        shutil.rmtree(f"{crate.folder}/out/rlib", ignore_errors=True)
         crate.out.seek(0)
-        return crate.out.read()
+        return crate.out.read() if failed else "a source changed while the program was built: call it once more\n"
 
 
 def begin(work, running, pool, at_once):
-    """Begins what can begin. Where that is less than there are processors, these are shared out."""
+    """Begins what can begin, by the processors that are free. Where these are more, they are shared out."""
+    free = at_once - sum(jobs for jobs, _ in running.values())
     crates = []
-    while len(running) + len(crates) < at_once and (crate := work.next({*running, *crates})):
+    while len(crates) < free and (crate := work.next({*running, *crates})):
         crates.append(crate)
     for crate in crates:
-        jobs = (at_once - len(running)) // len(crates)
-        running[crate] = pool.submit(prove, crate, max(1, jobs))
+        jobs = free // len(crates)
+        running[crate] = jobs, pool.submit(prove, crate, jobs, work.sums[crate])
 
 
 def libraries(crates, at_once):
-    """Builds all libraries; whether all stand."""
-    work, running = Build(crates), {}
-    with ThreadPoolExecutor(at_once) as pool:
-        while work.left:
-            begin(work, running, pool, at_once)
-            ended, _ = wait(running.values(), return_when=FIRST_COMPLETED)
-            for crate in [crate for crate, it in running.items() if it in ended]:
-                said = running.pop(crate).result()
-                if said is not None:
-                    sys.stderr.write(said)
-                    tell(f"{crate.name} is not proved")
-                    return False
-                work.done(crate)
-    return True
+    """Builds all libraries. Where one isn't proved all ends, the other checks too."""
+    work, running, pool = Build(crates), {}, ThreadPoolExecutor(at_once)
+    while work.left:
+        begin(work, running, pool, at_once)
+        wait([it for _, it in running.values()], return_when=FIRST_COMPLETED)
+        for crate in [crate for crate, (_, it) in running.items() if it.done()]:
+            said = running.pop(crate)[1].result()
+            if said is not None:
+                tell(f"{crate.name} is not proved\n{said}")
+                os._exit(1)
+            work.done(crate)
 
 
 def program(folder):
@@ -150,10 +166,10 @@ def main():
     held = rt.lock(crates)
     at_once = processors()
     tell(f"the program is proved and built first: {count(len(crates), 'crate')} below it, {at_once} at once")
-    stands = libraries(crates, at_once)
+    libraries(crates, at_once)
     for lock in held:
         os.close(lock)
-    return 0 if stands and program(folder) else 1
+    return 0 if program(folder) else 1
 
 
 if __name__ == "__main__":
