@@ -1,35 +1,45 @@
 //! The files of the system as a call is handed them. They count their faults, and tell the calls on them and what the reads
 //! gave; no contract sees what they hold.
-ghost use Rattle.std.specs.Prelude.{◌≡◌, [], true, false};
+ghost use Rattle.std.specs.Prelude.{◌≡◌, []};
+ghost use Rattle.lw_outside.specs.declared.files.CallKind.TheVariants as kind;
 
-use crate::writing::write_file;
+use crate::writing::{probe_file, write_file};
 use http_server::Log;
-use lw_outside::{Files, FilesStop, LONGEST_FILE, WriteStop};
+use lw_outside::{CallKind, Files, FilesStop, LONGEST_FILE, WriteStop};
 use std::fs;
 use std::io::{self, ErrorKind, Read};
 
-/// What became of a call: whether it writes, and whether it failed.
+/// What became of a call: what it does, and whether it failed.
 #[derive(Clone, Copy)]
 struct Made {
-    writes: bool,
+    kind: CallKind,
     failed: bool,
 }
 
 impl Made {
     fn reading(failed: bool) -> Made
-        ensures { (result.writes ≡ false) × (result.failed ≡ failed) }
+        ensures { (result.kind ≡ kind.Reads) × (result.failed ≡ failed) }
     {
         Made {
-            writes: false,
+            kind: CallKind::Reads,
             failed,
         }
     }
 
     fn writing(failed: bool) -> Made
-        ensures { (result.writes ≡ true) × (result.failed ≡ failed) }
+        ensures { (result.kind ≡ kind.Writes) × (result.failed ≡ failed) }
     {
         Made {
-            writes: true,
+            kind: CallKind::Writes,
+            failed,
+        }
+    }
+
+    fn probing(failed: bool) -> Made
+        ensures { (result.kind ≡ kind.Probes) × (result.failed ≡ failed) }
+    {
+        Made {
+            kind: CallKind::Probes,
             failed,
         }
     }
@@ -76,7 +86,7 @@ impl<R: fs::Files + AllocGlobal> Files for RealFiles<R> {
       holds = None;
       calls = Some (map (λ c. record {
         name = string_bytes c.0;
-        writes = c.1.writes;
+        kind = c.1.kind;
         failed = c.1.failed;
       }) f.calls.items);
       reads = map (λ r. (string_bytes r.0, r.1.items)) f.reads.items;
@@ -114,6 +124,22 @@ impl<R: fs::Files + AllocGlobal> Files for RealFiles<R> {
             Err(error) if error.kind() == ErrorKind::OutOfMemory => Err(WriteStop::NoMemory),
             Err(_) => {
                 self.calls = self.calls.and(&called, &Made::writing(true));
+                self.faults = self.faults.saturating_add(1);
+                Err(WriteStop::Failed)
+            }
+        }
+    }
+
+    fn probe(&mut self, name: &str) -> Result<(), WriteStop> {
+        let called = String::from_str(self.rt.alloc(), name)?;
+        match probe_file(&self.rt, name) {
+            Ok(()) => {
+                self.calls = self.calls.and(&called, &Made::probing(false));
+                Ok(())
+            }
+            Err(error) if error.kind() == ErrorKind::OutOfMemory => Err(WriteStop::NoMemory),
+            Err(_) => {
+                self.calls = self.calls.and(&called, &Made::probing(true));
                 self.faults = self.faults.saturating_add(1);
                 Err(WriteStop::Failed)
             }

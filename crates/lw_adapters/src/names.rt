@@ -6,8 +6,7 @@ use std::os::unix::fs::MetadataExt;
 /// Two different names of one file.
 #[derive(Clone, Copy, Debug, PartialEq, Eq)]
 pub struct TwoNames<'a> {
-    /// The file is written under this one.
-    pub written: &'a str,
+    pub name: &'a str,
     pub other: &'a str,
 }
 
@@ -42,7 +41,7 @@ fn target_of<R: Files + AllocGlobal>(rt: &R, link: &str) -> Option<String> {
 }
 
 /// The name behind links that lead to no file yet, or the name itself.
-fn behind_links<R: Files + AllocGlobal>(rt: &R, name: &str) -> Option<String> {
+pub(crate) fn behind_links<R: Files + AllocGlobal>(rt: &R, name: &str) -> Option<String> {
     let mut name = String::from_str(rt.alloc(), name).ok()?;
     for _ in 0..LINKS {
         match target_of(rt, name.as_str()) {
@@ -83,15 +82,15 @@ fn is_one_file<R: Files + AllocGlobal>(rt: &R, name: &str, other: &str) -> bool 
     }
 }
 
-/// The first of these names that is another one of the file that is written under this one.
+/// The first of these names that is another one of the file of this one.
 fn other_name<'a, R: Files + AllocGlobal>(
     rt: &R,
-    written: &str,
+    name: &str,
     names: &[Option<&'a str>],
 ) -> Option<&'a str> {
-    for name in names {
-        if let Some(other) = *name {
-            if other != written && is_one_file(rt, written, other) {
+    for one in names {
+        if let Some(other) = *one {
+            if other != name && is_one_file(rt, name, other) {
                 return Some(other);
             }
         }
@@ -99,21 +98,18 @@ fn other_name<'a, R: Files + AllocGlobal>(
     None
 }
 
-/// The first file that is written and that is named once more among these names, by another one: a relative and an absolute
-/// one, or a link. What is no file of a disk, as a pipe, may have two names.
+/// The first of these names whose file is named once more among them or among the others, by another name: a relative and an
+/// absolute one, or a link. Two of the others may be one file, and what is no file of a disk, as a pipe, may have two names.
 pub fn two_names<'a, R: Files + AllocGlobal>(
     rt: &R,
-    written: &[Option<&'a str>],
-    read: &[Option<&'a str>],
+    names: &[Option<&'a str>],
+    others: &[Option<&'a str>],
 ) -> Option<TwoNames<'a>> {
-    for name in written {
-        if let Some(name) = *name {
-            let other = other_name(rt, name, written).or(other_name(rt, name, read));
+    for one in names {
+        if let Some(name) = *one {
+            let other = other_name(rt, name, names).or(other_name(rt, name, others));
             if let Some(other) = other {
-                return Some(TwoNames {
-                    written: name,
-                    other,
-                });
+                return Some(TwoNames { name, other });
             }
         }
     }

@@ -1,12 +1,13 @@
 //! Writing a file so that it stands: the text is put beside the file and handed to the disk, and takes the file's name only
-//! when it is whole.
+//! when it is whole. And trying beforehand whether that could be done.
 
 ghost use Rattle.std.specs.Prelude.{OnOk};
 ghost use Rattle.std.specs.Io.KnownBytes.{Appends};
 
-use std::fs::{self, Files, Metadata, OpenFile, OpenOptions};
+use crate::names::behind_links;
+use std::fs::{self, FileType, Files, Metadata, OpenFile, OpenOptions};
 use std::io::{self, ErrorKind, Write};
-use std::os::unix::fs::MetadataExt;
+use std::os::unix::fs::{FileTypeExt, MetadataExt};
 
 /// How many names are tried for the file beside.
 const NAMES: u32 = 64;
@@ -126,4 +127,44 @@ fn is_like<F: OpenFile>(file: &F, old: Option<Metadata>) -> bool {
         }
         Err(_) => false,
     }
+}
+
+/// Tries whether a file could be written, and changes nothing. What is there is opened, but a pipe or a device, where that
+/// might wait, isn't; for what isn't there a file is made, as a write makes one, and removed.
+pub(crate) fn probe_file<R: Files + AllocGlobal>(rt: &R, name: &str) -> io::Result<()> {
+    match fs::metadata(rt, name) {
+        Ok(found) if may_wait(found.file_type()) => Ok(()),
+        Ok(_) => {
+            let _file = OpenOptions::new().write(true).open(rt, name)?;
+            Ok(())
+        }
+        Err(error) if error.kind() == ErrorKind::NotFound && !name.is_empty() => {
+            probe_new(rt, name)
+        }
+        Err(error) => Err(error),
+    }
+}
+
+/// Whether to open a file of this type may take until another program opens it too, or do something.
+fn may_wait(kind: FileType) -> bool {
+    kind.is_fifo() || kind.is_char_device() || kind.is_block_device()
+}
+
+/// Tries whether a file could be made that isn't there, behind the links that lead to it.
+fn probe_new<R: Files + AllocGlobal>(rt: &R, name: &str) -> io::Result<()> {
+    let Some(name) = behind_links(rt, name) else {
+        return Err(io::Error::from(ErrorKind::OutOfMemory));
+    };
+    let made = match make_beside(rt, name.as_str())? {
+        Some((beside, _file)) => beside,
+        None => {
+            let _file = OpenOptions::new()
+                .write(true)
+                .create_new(true)
+                .open(rt, name.as_str())?;
+            name
+        }
+    };
+    let _removed = fs::remove_file(rt, made.as_str());
+    Ok(())
 }

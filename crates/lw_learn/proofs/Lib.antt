@@ -1,4 +1,5 @@
 pub mod FoundLemmas
+pub mod ProbeLemmas
 pub mod ReadLemmas
 pub mod RunLemmas
 pub mod ToldLemmas

@@ -53,7 +53,9 @@ use Rattle.lw_learn.specs.Writing.{IsModelText, NothingFailed, StaysBesides, Tak
 use Rattle.lw_learn.specs.bodies.UnreadState.{UnreadState}
 use Rattle.lw_learn.specs.Unread.{IsUnreadAs, IsUnreadBy, names_read}
 use Rattle.lw_learn.specs.bodies.Ready.{GivesModel, IsMachineFor}
-use Rattle.lw_learn.specs.bodies.Stages.{IsWordedStage, SaysWorded}
+use Rattle.lw_learn.specs.Probes.{IsUnwritable}
+use Rattle.lw_learn.specs.bodies.Probing.{IsProbedStage}
+use Rattle.lw_learn.specs.bodies.Stages.{SaysWorded}
 use Rattle.lw_learn.specs.declared.saving.Saved.{Saved}
 use Rattle.lw_learn.specs.declared.saving.Saved.TheVariants as saving
 use Rattle.lw_learn.specs.declared.task.WordedTask.{WordedTask}
@@ -476,16 +478,16 @@ plain_end goal a letters words prior (Ok l) kept end carries same runs is_table 
     (subst (λ (ks : List KeptAnswer). HasPlainWords task words l.model.rows (refinements_of l.learner) ks) (sym same) has))
 
 -- and before that read, with the words that are asked first
-pub task_ready : (a : LearnValues) (f m : FilesState) (r : Result WordedTask UnreadState) (t : WordedTask) → r ≡ Ok t → IsWordedStage a f m r → SaysWorded a f m t
-task_ready a f m r t is stage = by (subst (λ (x : Result WordedTask UnreadState). IsWordedStage a f m x) is stage)
+pub task_ready : (a : LearnValues) (f m : FilesState) (r : Result WordedTask UnreadState) (t : WordedTask) → r ≡ Ok t → IsProbedStage a f m r → SaysWorded a f m t
+task_ready a f m r t is stage = by (subst (λ (x : Result WordedTask UnreadState). IsProbedStage a f m x) is stage)
   where
-    by : IsWordedStage a f m (Ok t) → SaysWorded a f m t
+    by : IsProbedStage a f m (Ok t) → SaysWorded a f m t
     by x = x.ok
 
-pub ends_read : (a : LearnValues) (f m g : FilesState) (b z : SpawnerState) (o p e d : SinkState) (end : End) (r : Result WordedTask UnreadState) (t : WordedTask) → r ≡ Ok t → IsWordedStage a f m r → EndsLearned a t.task.system t.task.cache.kept m g b z o p e d end → (end.model ≢ None → AnswersWords t.words end.kept.answers) → EndsPlainly a (length (letters_of t.task.system)) t.words t.task.cache.kept end → EndsRead a f g b z o p e d end
-ends_read a f m g b z o p e d end r t is stage learned answered plainly = by (subst (λ (x : Result WordedTask UnreadState). IsWordedStage a f m x) is stage)
+pub ends_read : (a : LearnValues) (f m g : FilesState) (b z : SpawnerState) (o p e d : SinkState) (end : End) (r : Result WordedTask UnreadState) (t : WordedTask) → r ≡ Ok t → IsProbedStage a f m r → EndsLearned a t.task.system t.task.cache.kept m g b z o p e d end → (end.model ≢ None → AnswersWords t.words end.kept.answers) → EndsPlainly a (length (letters_of t.task.system)) t.words t.task.cache.kept end → EndsRead a f g b z o p e d end
+ends_read a f m g b z o p e d end r t is stage learned answered plainly = by (subst (λ (x : Result WordedTask UnreadState). IsProbedStage a f m x) is stage)
   where
-    by : IsWordedStage a f m (Ok t) → EndsRead a f g b z o p e d end
+    by : IsProbedStage a f m (Ok t) → EndsRead a f g b z o p e d end
     by x = record {
       system = t.task.system;
       prior = t.task.cache.kept;
@@ -534,19 +536,41 @@ wordless_as a f g read kept why outcome by told = record {
   told = ⊎_elim (λ (same : outcome ≡ why). subst (λ (x : Outcome). (x ≡ by.why) ⊎ (x ≡ NoMemory)) (sym same) by.told) (λ (wants : outcome ≡ NoMemory). inr wants) told;
 }
 
-pub ends_unread : (a : LearnValues) (f m g : FilesState) (b : SpawnerState) (o e d : SinkState) (end : End) (r : Result WordedTask UnreadState) (u : UnreadState) → r ≡ Err u → IsWordedStage a f m r → HasSaid u a.extra a.kept m g e d end → EndsUnread a f g b b o o e d end
-ends_unread a f m g b o e d end r u is stage h = by (subst (λ (x : Result WordedTask UnreadState). IsWordedStage a f m x) is stage)
+-- a file that could not be written
+unwritable_as : (a : LearnValues) (f g : FilesState) (read : Option System) (kept : List KeptAnswer) (why outcome : Outcome) → IsUnwritable a f g read kept why → (outcome ≡ why) ⊎ (outcome ≡ NoMemory) → IsUnwritable a f g read kept outcome
+unwritable_as a f g read kept why outcome by told = record {
+  system = by.system;
+  prior = by.prior;
+  words = by.words;
+  between = by.between;
+  middle = by.middle;
+  read_is = by.read_is;
+  task = by.task;
+  asked = by.asked;
+  made = by.made;
+  quiet = by.quiet;
+  reads = by.reads;
+  nothing = by.nothing;
+  why = by.why;
+  because = by.because;
+  told = ⊎_elim (λ (same : outcome ≡ why). subst (λ (x : Outcome). (x ≡ by.why) ⊎ (x ≡ NoMemory)) (sym same) by.told) (λ (wants : outcome ≡ NoMemory). inr wants) told;
+}
+
+pub ends_unread : (a : LearnValues) (f m g : FilesState) (b : SpawnerState) (o e d : SinkState) (end : End) (r : Result WordedTask UnreadState) (u : UnreadState) → r ≡ Err u → IsProbedStage a f m r → HasSaid u a.extra a.kept m g e d end → EndsUnread a f g b b o o e d end
+ends_unread a f m g b o e d end r u is stage h = by (subst (λ (x : Result WordedTask UnreadState). IsProbedStage a f m x) is stage)
   where
     same : u.kept ≡ end.kept.answers
     same = sym h.kept
 
-    by : IsWordedStage a f m (Err u) → EndsUnread a f g b b o o e d end
+    by : IsProbedStage a f m (Err u) → EndsUnread a f g b b o o e d end
     by x = record {
       read = u.system;
       between = m;
       cause = ⊎_elim
           (λ (unread : IsUnreadBy a f m u.system u.kept u.outcome). inl (unread_as a f m u.system end.kept.answers u.outcome end.outcome (subst (λ (ks : List KeptAnswer). IsUnreadBy a f m u.system ks u.outcome) same unread) h.outcome))
-          (λ (wordless : IsWordlessTask a f m u.system u.kept u.outcome). inr (wordless_as a f m u.system end.kept.answers u.outcome end.outcome (subst (λ (ks : List KeptAnswer). IsWordlessTask a f m u.system ks u.outcome) same wordless) h.outcome))
+          (⊎_elim
+          (λ (wordless : IsWordlessTask a f m u.system u.kept u.outcome). inr (inl (wordless_as a f m u.system end.kept.answers u.outcome end.outcome (subst (λ (ks : List KeptAnswer). IsWordlessTask a f m u.system ks u.outcome) same wordless) h.outcome)))
+          (λ (unwritable : IsUnwritable a f m u.system u.kept u.outcome). inr (inr (unwritable_as a f m u.system end.kept.answers u.outcome end.outcome (subst (λ (ks : List KeptAnswer). IsUnwritable a f m u.system ks u.outcome) same unwritable) h.outcome))))
           x.err;
       same = x.same;
       model = h.model;

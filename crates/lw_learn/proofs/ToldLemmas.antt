@@ -35,6 +35,7 @@ use Rattle.lw_report.specs.declared.outcome.Outcome.TheVariants.{Learned, Trial,
 use Rattle.lw_report.specs.declared.role.Role.{Role}
 use Rattle.lw_report.specs.declared.role.Role.TheVariants as role
 use Rattle.lw_learn.specs.Arguments.{LearnValues}
+use Rattle.lw_learn.specs.Probes.{FailsProbe, IsUnwritable, WantsProbe, written_files}
 use Rattle.lw_learn.specs.Asking.{IsWordless, IsWordlessTask, IsWordsFile, ReadsUnknown}
 use Rattle.lw_learn.specs.Tasks.{ReadsPrior, with_outputs}
 use Rattle.lw_system.specs.AcceptorFinding.{HasNoRoomFor}
@@ -378,7 +379,7 @@ memory_alone file letters f g told quiet (Unstarted cause) is = absurd is
 memory_alone file letters f g told quiet SinkFault is = absurd is
 
 pub told_is_learned : ToldIsLearned
-told_is_learned a f g b z o p e d end s told quiet ended = ⊎_elim unread wordless ended.cause
+told_is_learned a f g b z o p e d end s told quiet ended = ⊎_elim unread (⊎_elim wordless unwritable) ended.cause
   where
     memory : end.outcome ≡ NoMemory → IsNoRefusal end.outcome
     memory is = subst (λ (x : Outcome). IsNoRefusal x) (sym is) tt
@@ -401,6 +402,18 @@ told_is_learned a f g b z o p e d end s told quiet ended = ⊎_elim unread wordl
         let still : ¬ CountedFault by.between.faults ended.between.faults = subst (λ (n : ℕ). ¬ CountedFault n ended.between.faults) (sym by.quiet) between_quiet in
         ⊎_elim
         (λ (is : end.outcome ≡ by.why). memory (is ∙ memory_alone a.words (letters_of by.system) by.between ended.between words still by.why by.because))
+        memory
+        by.told
+
+    unwritable : IsUnwritable a f ended.between ended.read end.kept.answers end.outcome → IsNoRefusal end.outcome
+    unwritable by =
+        let still : ¬ CountedFault by.middle.faults ended.between.faults = subst (λ (n : ℕ). ¬ CountedFault n ended.between.faults) (sym by.quiet) between_quiet in
+        ⊎_elim
+        (λ (is : end.outcome ≡ by.why).
+        ⊎_elim
+        (λ (fails : (role : Role) × (by.why ≡ FileFault role) × FailsProbe (written_files a) by.middle ended.between role). absurd (still fails.2.counted))
+        (λ (wants : (by.why ≡ NoMemory) × WantsProbe (written_files a) by.middle ended.between). memory (is ∙ wants.0))
+        by.because)
         memory
         by.told
 

@@ -34,6 +34,7 @@ use Rattle.lw_learn.specs.Arguments.{LearnValues}
 use Rattle.lw_learn.specs.Asking.{IsWordlessTask, SaysWords}
 use Rattle.lw_learn.specs.Calls.{MadeWrites}
 use Rattle.lw_learn.specs.Findings.{IsOfSystem, LearningStopsBy}
+use Rattle.lw_learn.specs.Probes.{IsUnwritable, probes_of, written_files}
 use Rattle.lw_learn.specs.Outcomes.{IsBadLine, IsLearnedOutcome, IsReachedOutcome, ModelIsTold}
 use Rattle.lw_learn.specs.Saving.{HasSaved, IsSaved, KeptStand, MayTell}
 use Rattle.lw_learn.specs.Tasks.{ReadsTask}
@@ -48,12 +49,14 @@ use Rattle.lw_system.specs.declared.system.System.{System}
 use Rattle.lw_system.specs.declared.system.System.TheVariants.{Table, Children}
 
 -- no learning began: no child is started, nothing is written but prior answers, where they clash or words that are to be asked
--- could not be read, which are what is kept, and the outcome's text goes to `err`
+-- could not be read, which are what is kept, and the outcome's text goes to `err`. Where a file can't be written, which is
+-- told once all was read, nothing is
 pub record EndsUnread (a : LearnValues) (files_before files_now : FilesState) (spawner_before spawner_now : SpawnerState) (out_before out_now : SinkState) (err_before err_now : SinkState) (end : End) : Type 0 where
   pub read : Option System
   pub between : FilesState
   pub cause : IsUnreadAs a files_before between read end.kept.answers end.outcome ⊎
-      IsWordlessTask a files_before between read end.kept.answers end.outcome
+      (IsWordlessTask a files_before between read end.kept.answers end.outcome ⊎
+      IsUnwritable a files_before between read end.kept.answers end.outcome)
   pub same : between.holds ≡ files_before.holds
   pub model : end.model ≡ None
   pub learner : IsWithoutLearner end
@@ -177,7 +180,8 @@ pub record EndsRead (a : LearnValues) (files_before files_now : FilesState) (spa
   pub middle : FilesState
   pub task : ReadsTask a files_before.holds files_before.reads between system prior
   pub asked : SaysWords a (letters_of system) files_before.holds between middle.reads words
-  pub made : MadeReads files_before middle []
+  -- each file that will be written was probed behind the reads, before the first child was started, and none failed
+  pub made : MadeReads files_before middle (probes_of (written_files a))
   pub quiet : middle.faults ≡ files_before.faults
   pub same : middle.holds ≡ files_before.holds
   -- of two prior answers that clash nothing is learned

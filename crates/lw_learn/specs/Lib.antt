@@ -5,6 +5,7 @@ pub mod Ending
 pub mod Findings
 pub mod LearnRun
 pub mod Outcomes
+pub mod Probes
 pub mod Saving
 pub mod Tasks
 pub mod Told

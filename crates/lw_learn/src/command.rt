@@ -11,10 +11,10 @@ ghost use Rattle.lw_system.specs.Systems.{letters_of};
 ghost use Rattle.lw_learn.specs.bodies.Ready.{IsReady};
 
 use crate::LearnArguments;
-use crate::asking::read_worded;
 use crate::ending::finish;
 use crate::learning::learn_system;
 use crate::logging::{log_end, log_stop, log_unread, open_log, say_log, unread_text};
+use crate::probing::read_probed;
 use crate::refusing::end_unread;
 use crate::task::{Task, WordedTask};
 use lw_log::Log;
@@ -88,7 +88,7 @@ fn learn_read<
     end
 }
 
-/// Reads what is to be learned, learns it and ends the call.
+/// Reads what is to be learned, probes what will be written, learns the system and ends the call.
 fn learn_logged<
     R: Threads + Wait + Sync + Drop,
     F: Files,
@@ -109,7 +109,7 @@ fn learn_logged<
         ((E.state world.old.err).faults ≤ (E.state world.new.err).faults) }
     ensures input { world.new.input ≡ world.old.input }
 {
-    match read_worded(alloc, arguments, &mut world.files, &mut world.log) {
+    match read_probed(alloc, arguments, &mut world.files, &mut world.log) {
         Ok(worded) => learn_read(rt, alloc, arguments, worded, world),
         Err(unread) => {
             let text = unread_text(alloc, &unread, arguments.extra());
@@ -122,7 +122,8 @@ fn learn_logged<
 
 /// Learns a system: the machine that it is, or the acceptor behind it. First the files are read that say what it is: a setup or
 /// a table file, the table file that a setup names, the file of prior answers, and the file of words that are asked first,
-/// where one is named. Then the system is learned, over as many instances: of a table's machine, or children that a
+/// where one is named. Then the files that will be written are probed, and the first that can't be ends the call, with no
+/// child started and nothing written. Then the system is learned, over as many instances: of a table's machine, or children that a
 /// setup's command starts, and that are all ended again, whatever comes: first those words and drawn ones are asked, in
 /// one batch, then the rounds go on until a model is sure. Then the answers that are kept are saved, where a file is
 /// named for them, whatever came of the learning; the model file and the answers file are written, where they are

@@ -9,6 +9,7 @@ mod laws;
 mod learning;
 mod logging;
 mod naming;
+mod probing;
 mod reading;
 mod refusing;
 mod reporting;

@@ -2,6 +2,8 @@
 use Rattle.std.specs.Prelude.{◌≡◌, ◌≢◌, ℕ, ◌<◌, ◌≤◌, List, [], ◌∷◌, ◌++◌, length, Bool, false, true, Option, Some, None, Result, Err, IfOk, OnOk, OnErr, option_map, if◌then◌else◌, ⊤}
 use Rattle.std.specs.Str.{bytes_eq}
 use Rattle.lw_words.specs.Cause.{CountedFault}
+use Rattle.lw_outside.specs.declared.files.CallKind.{CallKind}
+use Rattle.lw_outside.specs.declared.files.CallKind.TheVariants as kind
 use Rattle.lw_outside.specs.declared.files.FilesStop.{FilesStop}
 use Rattle.lw_outside.specs.declared.files.FilesStop.TheVariants as unread
 use Rattle.lw_outside.specs.declared.files.WriteStop.{WriteStop}
@@ -40,17 +42,20 @@ abbrev pub StaysBeside : List ℕ → Option (List File) → Option (List File) 
 StaysBeside name None after = after ≡ None
 StaysBeside name (Some fs) after = (gs : List File) × (after ≡ Some gs) × ((other : List ℕ) → other ≢ name → file_at other gs ≡ file_at other fs)
 
--- a call that was answered other than out of memory: the file's name, whether it writes, whether it failed
+-- a call that was answered other than out of memory: the file's name, what it did, whether it failed
 pub record Call : Type 0 where
   pub name : List ℕ
-  pub writes : Bool
+  pub kind : CallKind
   pub failed : Bool
 
 abbrev pub read_call : List ℕ → Bool → Call
-read_call name failed = record { name = name; writes = false; failed = failed }
+read_call name failed = record { name = name; kind = kind.Reads; failed = failed }
 
 abbrev pub write_call : List ℕ → Bool → Call
-write_call name failed = record { name = name; writes = true; failed = failed }
+write_call name failed = record { name = name; kind = kind.Writes; failed = failed }
+
+abbrev pub probe_call : List ℕ → Bool → Call
+probe_call name failed = record { name = name; kind = kind.Probes; failed = failed }
 
 -- observed calls, and one more
 abbrev pub noted : Call → Option (List Call) → Option (List Call)
@@ -91,6 +96,17 @@ pub record FilesWrite (name bytes : List ℕ) (before now : FilesState) (result 
   pub reads : now.reads ≡ before.reads
   pub quiet : OnOk result (now.faults ≡ before.faults)
   pub counts : before.faults ≤ now.faults
+
+-- what a probe does, which asks whether a write under the name could be made: nothing changes that stands there
+pub record FilesProbe (name : List ℕ) (before now : FilesState) (result : Result ⊤ WriteStop) : Type 0 where
+  pub ok : OnOk result (now.calls ≡ noted (probe_call name false) before.calls)
+  pub failed : result ≡ Err unwritten.Failed → CountedFault before.faults now.faults
+  pub failed_call : result ≡ Err unwritten.Failed → now.calls ≡ noted (probe_call name true) before.calls
+  pub memory : result ≡ Err unwritten.NoMemory → now.calls ≡ before.calls
+  pub reads : now.reads ≡ before.reads
+  pub quiet : OnOk result (now.faults ≡ before.faults)
+  pub counts : before.faults ≤ now.faults
+  pub same : now.holds ≡ before.holds
 
 -- one read gave these bytes of the named file, no more than a file may have; and they are there, where that is observed
 pub record WasRead (holds : Option (List File)) (before after : List File) (name bytes : List ℕ) : Type 0 where

@@ -19,18 +19,21 @@ is_planned plan made = list_any (λ number. nat_eq number made) plan
 abbrev pub one_more : ℕ → ℕ
 one_more count = min (count + 1) (2 ^ 64 - 1)
 
--- what files hold, the calls on them, the reads that gave bytes, and how often they failed
+-- what files hold, the calls on them, the reads that gave bytes, the plan of the reads and writes that fail, how many were
+-- made, the plan of the probes that fail, how many were made, and how often a call failed
 pub record MemoryFilesState : Type 0 where
   pub holds : List File
   pub calls : List Call
   pub reads : List File
   pub plan : List ℕ
   pub made : ℕ
+  pub probe_plan : List ℕ
+  pub probed : ℕ
   pub faults : ℕ
 
--- these files, before any call
+-- these files, before any call; no probe is to fail
 abbrev pub files_with : List File → List ℕ → MemoryFilesState
-files_with holds plan = record { holds = holds; calls = []; reads = []; plan = plan; made = 0; faults = 0 }
+files_with holds plan = record { holds = holds; calls = []; reads = []; plan = plan; made = 0; probe_plan = []; probed = 0; faults = 0 }
 
 -- how a read ends where there is memory
 pub data ReadEnd : Type 0 where
@@ -53,12 +56,19 @@ ReadEndsAs items end (Err Failed) = end ≡ Fails
 ReadEndsAs items end (Err TooLong) = end ≡ IsLong
 ReadEndsAs items end (Err NoMemory) = Unit {0}
 
--- a call was made and noted; what the files hold is another matter
+-- a read or a write was made and noted; what the files hold is another matter
 pub record NotesCall (before : MemoryFilesState) (call : Call) (after : MemoryFilesState) : Type 0 where
   pub calls : after.calls ≡ before.calls ++ call ∷ []
   pub plan : after.plan ≡ before.plan
   pub made : after.made ≡ one_more before.made
+  pub probe_plan : after.probe_plan ≡ before.probe_plan
+  pub probed : after.probed ≡ before.probed
   pub faults : after.faults ≡ (if call.failed then one_more before.faults else before.faults)
+
+-- a probe was made and noted, and nothing else changed
+abbrev pub NotesProbe : MemoryFilesState → Call → MemoryFilesState → Type 0
+NotesProbe before call after =
+    after ≡ record before { calls = before.calls ++ call ∷ []; probed = one_more before.probed; faults = (if call.failed then one_more before.faults else before.faults) }
 
 -- the bytes that a sink took, how many more it has room for, how many it takes at a time, and how often it failed
 pub record MemorySinkState : Type 0 where

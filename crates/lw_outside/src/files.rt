@@ -1,5 +1,5 @@
 //! Files by name.
-ghost use Rattle.lw_outside.specs.Files.{FilesState, FilesRead, FilesWrite};
+ghost use Rattle.lw_outside.specs.Files.{FilesState, FilesProbe, FilesRead, FilesWrite};
 
 use std::alloc::{AllocError, AllocFailed};
 
@@ -15,7 +15,16 @@ pub enum FilesStop {
     NoMemory,
 }
 
-/// Why a file was not written.
+/// What a call on files does.
+#[derive(Clone, Copy, Debug, PartialEq, Eq)]
+pub enum CallKind {
+    Reads,
+    Writes,
+    /// It asks whether a write could be made.
+    Probes,
+}
+
+/// Why a file was not written, or why it could not be.
 #[derive(Clone, Copy, Debug, PartialEq, Eq)]
 pub enum WriteStop {
     Failed,
@@ -35,6 +44,10 @@ pub trait Files {
     /// Puts the bytes under the name, in place of what stood there. Where that is refused, anything may stand there.
     fn write(&mut self, name: &str, bytes: &[u8]) -> Result<(), WriteStop>
         ensures { FilesWrite name.now bytes.now (state self.old) (state self.new) result };
+
+    /// Whether a write under the name could be made, as far as that can be told before. What stands there stays.
+    fn probe(&mut self, name: &str) -> Result<(), WriteStop>
+        ensures { FilesProbe name.now (state self.old) (state self.new) result };
 }
 
 impl From<AllocError> for FilesStop {

@@ -21,7 +21,7 @@ mod transcript;
 mod world;
 
 pub use answer_line::AnswerLine;
-pub use files::{Files, FilesStop, LONGEST_FILE, WriteStop};
+pub use files::{CallKind, Files, FilesStop, LONGEST_FILE, WriteStop};
 pub use links::{Link, Spawner, StartFailure, StartStop, copy_words};
 pub use logs::LogFile;
 pub use memory_files::{FileCall, MemoryFiles};

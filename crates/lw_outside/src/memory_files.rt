@@ -1,34 +1,37 @@
 //! Files in memory.
 ghost use Rattle.std.specs.Prelude.{◌≡◌, ◌<◌, ◌≤◌, ◌∷◌, [], ◌++◌, length, map, true, false, Some, Err, IfOk, OnOk, OnErr, option_map, string_bytes, vec_capacity, vec_len};
 ghost use Rattle.lw_words.specs.Cause.{CountedFault};
-ghost use Rattle.lw_outside.specs.Files.{Holds, HoldsLong, StaysBeside, file_at, longest_file, noted, read_call, write_call, FilesRead, FilesWrite};
-ghost use Rattle.lw_outside.specs.Memory.{ReadEndsAs, NotesCall, files_with, is_planned, read_end, told_files};
+ghost use Rattle.lw_outside.specs.Files.{Holds, HoldsLong, StaysBeside, file_at, longest_file, noted, probe_call, read_call, write_call, FilesProbe, FilesRead, FilesWrite};
+ghost use Rattle.lw_outside.specs.Memory.{ReadEndsAs, NotesCall, NotesProbe, files_with, is_planned, read_end, told_files};
+ghost use Rattle.lw_outside.specs.declared.files.CallKind.TheVariants as kind;
 ghost use Rattle.lw_outside.specs.declared.files.FilesStop.{FilesStop as ReadRefusal};
 ghost use Rattle.lw_outside.specs.declared.files.WriteStop.{WriteStop as WriteRefusal};
 
 use crate::files::LONGEST_FILE;
-use crate::{Files, FilesStop, WriteStop};
+use crate::{CallKind, Files, FilesStop, WriteStop};
 use http_server::Log;
 use lw_words::NoMemory;
 use std::alloc::{AllocError, Global};
 use std::marker::Model;
 
-/// A call on files: the name, whether it writes, and whether it failed.
+/// A call on files: the name, what it does, and whether it failed.
 #[derive(Drop)]
 pub struct FileCall {
     pub name: String,
-    pub writes: bool,
+    pub kind: CallKind,
     pub failed: bool,
 }
 
 /// Files in memory. A later file of the same name wins.
 /// Contracts see what they hold, the calls that were answered other than out of memory, what the reads gave, the plan
-/// of the calls that are to fail with the number of the next one, and the count of faults.
+/// of the reads and writes that are to fail with the number of the next one, that of the probes, and the count of faults.
 #[derive(Drop)]
 pub struct MemoryFiles {
     files: Vec<(String, Vec<u8>)>,
     plan: Vec<u64>,
     made: u64,
+    probe_plan: Vec<u64>,
+    probed: u64,
     faults: u64,
     calls: Vec<FileCall>,
     reads: Log<String, Vec<u8>>,
@@ -43,10 +46,12 @@ impl Model for MemoryFiles {
 
     ghost view = { λ m. record {
       holds = map (λ f. (string_bytes f.0, f.1.items)) m.files.items;
-      calls = map (λ c. record { name = string_bytes c.name; writes = c.writes; failed = c.failed }) m.calls.items;
+      calls = map (λ c. record { name = string_bytes c.name; kind = c.kind; failed = c.failed }) m.calls.items;
       reads = map (λ f. (string_bytes f.0, f.1.items)) m.reads.items;
       plan = m.plan.items;
       made = m.made;
+      probe_plan = m.probe_plan.items;
+      probed = m.probed;
       faults = m.faults;
     } };
 }
@@ -66,26 +71,36 @@ fn find<'a>(files: &'a [(String, Vec<u8>)], name: &str) -> Option<&'a Vec<u8>>
 }
 
 fn read_of(name: String, failed: bool) -> FileCall
-    ensures { result ≡ record { name = name; writes = false; failed = failed } }
+    ensures { result ≡ record { name = name; kind = kind.Reads; failed = failed } }
 {
     FileCall {
         name,
-        writes: false,
+        kind: CallKind::Reads,
         failed,
     }
 }
 
 fn write_of(name: String, failed: bool) -> FileCall
-    ensures { result ≡ record { name = name; writes = true; failed = failed } }
+    ensures { result ≡ record { name = name; kind = kind.Writes; failed = failed } }
 {
     FileCall {
         name,
-        writes: true,
+        kind: CallKind::Writes,
         failed,
     }
 }
 
-/// What a read takes memory for before it looks: the name of the call, and a place for the call.
+fn probe_of(name: String, failed: bool) -> FileCall
+    ensures { result ≡ record { name = name; kind = kind.Probes; failed = failed } }
+{
+    FileCall {
+        name,
+        kind: CallKind::Probes,
+        failed,
+    }
+}
+
+/// What a read or a probe takes memory for before it looks: the name of the call, and a place for the call.
 fn ready_to_read(alloc: Global, name: &str, calls: &mut Vec<FileCall>) -> Result<String, AllocError>
     ensures calls { calls.new.items ≡ calls.old.items }
     ensures called { IfOk result (λ called. string_bytes called ≡ name.now) }
@@ -121,7 +136,7 @@ fn ready_to_write(
 }
 
 impl MemoryFiles {
-    /// These files. The calls whose numbers from 0 the plan has are to fail.
+    /// These files. The reads and writes whose numbers from 0 the plan has are to fail.
     pub fn new(
         alloc: Global,
         files: Vec<(String, Vec<u8>)>,
@@ -134,6 +149,8 @@ impl MemoryFiles {
             files,
             plan,
             made: 0,
+            probe_plan: Vec::new(alloc),
+            probed: 0,
             faults: 0,
             calls: Vec::new(alloc),
             reads: Log::new(),
@@ -141,11 +158,18 @@ impl MemoryFiles {
         })
     }
 
+    /// The probes whose numbers from 0 the plan has are to fail.
+    pub fn refuse_probes(&mut self, plan: Vec<u64>)
+        ensures { self.new ≡ record self.old { probe_plan = plan.items } }
+    {
+        self.probe_plan = plan;
+    }
+
     /// The calls so far, but those for which there was no memory.
     pub fn calls(&self) -> &[FileCall]
         ensures { map (λ c. record {
           name = string_bytes c.name;
-          writes = c.writes;
+          kind = c.kind;
           failed =
               c.failed;
         }) result.now ≡ self.now.calls }
@@ -249,6 +273,30 @@ impl Files for MemoryFiles {
             return Err(WriteStop::Failed);
         }
         self.files.push_reserved(file);
+        Ok(())
+    }
+
+    fn probe(&mut self, name: &str) -> Result<(), WriteStop>
+        ensures every { FilesProbe name.now (told_files self.old) (told_files self.new) result }
+
+        // By the plan of probes, and nothing else.
+        ensures planned { result ≡ Err WriteRefusal.Failed →
+            is_planned self.old.probe_plan self.old.probed ≡ true }
+        ensures unplanned { OnOk result
+            (is_planned self.old.probe_plan self.old.probed ≡ false) }
+        ensures noted_ok { OnOk result (NotesProbe self.old (probe_call name.now false) self.new) }
+        ensures noted_failed { result ≡ Err WriteRefusal.Failed →
+            NotesProbe self.old (probe_call name.now true) self.new }
+        ensures unnoted { result ≡ Err WriteRefusal.NoMemory → self.new ≡ self.old }
+    {
+        let called = ready_to_read(self.alloc, name, &mut self.calls)?;
+        let failed = self.probe_plan.contains(&self.probed);
+        self.probed = self.probed.saturating_add(1);
+        self.calls.push_reserved(probe_of(called, failed));
+        if failed {
+            self.faults = self.faults.saturating_add(1);
+            return Err(WriteStop::Failed);
+        }
         Ok(())
     }
 }

@@ -61,27 +61,49 @@ fn tell<E: Sink>(err: &mut E, texts: &[&str]) {
     }
 }
 
-/// The status of a learning that names a file twice, which is reported: by two names, or as its log and for something
-/// else. None of any other call.
+/// The status of a call that names a file for this and for something else too, by the same name, which is reported.
+fn refuse_shared<E: Sink>(
+    rt: &HostRuntime,
+    name: Option<&str>,
+    this: &str,
+    others: &[Option<&str>],
+    err: &mut E,
+) -> Option<u8> {
+    let name = name?;
+    if !is_among(rt, name, others) {
+        return None;
+    }
+    tell(err, &["one file for ", this, " and another: ", name, "\n"]);
+    Some(2)
+}
+
+/// The status of a learning that names a file twice, which is reported: by two names, or by one as its log, its kept answers or
+/// its words and for something else. None of any other call. Kept answers may have the name of the prior ones, and the answers
+/// that of the model.
 fn refuse<E: Sink>(rt: &HostRuntime, arguments: &[String], err: &mut E) -> Option<u8> {
     let arguments = learning(rt.alloc(), arguments)?;
     let (model, answers, kept) = (arguments.model(), arguments.answers(), arguments.kept());
-    let (system, prior, words) = (arguments.system(), arguments.prior(), arguments.words());
-    let written = [model, answers, kept, arguments.log()];
-    if let Some(names) = two_names(rt, &written, &[Some(system), prior, words]) {
-        let (name, other) = (names.written, names.other);
+    let (prior, words, log) = (arguments.prior(), arguments.words(), arguments.log());
+    let system = Some(arguments.system());
+    let options = [model, answers, kept, log, words];
+    if let Some(names) = two_names(rt, &options, &[system, prior]) {
+        let (name, other) = (names.name, names.other);
         tell(
             err,
             &["one file under two names: ", name, ", ", other, "\n"],
         );
         return Some(2);
     }
-    let log = arguments.log()?;
-    if !is_among(rt, log, &[model, answers, kept, Some(system), prior, words]) {
-        return None;
+    let all = [model, answers, system, prior, words, kept];
+    if let Some(status) = refuse_shared(rt, log, "the log", &all, err) {
+        return Some(status);
     }
-    tell(err, &["one file for the log and another: ", log, "\n"]);
-    Some(2)
+    let others = [model, answers, system, words];
+    if let Some(status) = refuse_shared(rt, kept, "the kept answers", &others, err) {
+        return Some(status);
+    }
+    let others = [model, answers, system, prior];
+    refuse_shared(rt, words, "the words", &others, err)
 }
 
 /// What is sent to children, with a thread that looks at it as long as the program runs; nothing where there can be no such thread.

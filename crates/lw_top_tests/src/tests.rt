@@ -6,6 +6,7 @@ mod children;
 mod naming;
 mod nested;
 mod prior;
+mod probing;
 mod refusals;
 mod rows;
 mod serving;

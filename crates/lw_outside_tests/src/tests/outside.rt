@@ -32,6 +32,8 @@ enum Turn {
     RefusesRead(&'static str),
     Writes(&'static str, &'static str),
     RefusesWrite(&'static str, &'static str),
+    Probes(&'static str),
+    RefusesProbe(&'static str),
 }
 
 fn goes<F: Files>(files: &mut F, turn: &Turn) -> bool {
@@ -42,6 +44,8 @@ fn goes<F: Files>(files: &mut F, turn: &Turn) -> bool {
         Turn::RefusesWrite(name, text) => {
             files.write(name, text.as_bytes()) == Err(WriteStop::Failed)
         }
+        Turn::Probes(name) => files.probe(name) == Ok(()),
+        Turn::RefusesProbe(name) => files.probe(name) == Err(WriteStop::Failed),
     }
 }
 
@@ -73,6 +77,29 @@ fn are_found(rt: &impl Abort, alloc: Global) -> bool {
 #[test]
 fn files_by_name(rt: HostRuntime) {
     assert!(rt; are_found(&rt, rt.alloc()));
+}
+
+/// The second probe fails and the second of the other calls, each by its own plan.
+static PROBED: [Turn; 6] = [
+    Turn::Probes("d"),
+    Turn::Reads("b", "two"),
+    Turn::RefusesProbe("a"),
+    Turn::RefusesWrite("a", "other"),
+    Turn::Probes("a"),
+    Turn::Reads("a", "new"),
+];
+
+/// Whether probes fail by a plan of their own, are noted, and change no file.
+fn are_probed(rt: &impl Abort, alloc: Global) -> bool {
+    let mut files = two_files(rt, alloc, &[1]);
+    files.refuse_probes(Vec::from_slice(alloc, &[1]).expect(rt, "memory"));
+    let gone = all_go(&mut files, &PROBED);
+    gone && files.calls().len() == 6 && files.bytes("d").is_none()
+}
+
+#[test]
+fn probes_of_files(rt: HostRuntime) {
+    assert!(rt; are_probed(&rt, rt.alloc()));
 }
 
 static BY_PLAN: [Turn; 4] = [
