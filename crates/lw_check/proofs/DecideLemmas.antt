@@ -14,7 +14,7 @@ use Rattle.lw_check.specs.Decision.{Pair, SameNames, HasVerdict, IsNo, IsDecisio
 use Rattle.lw_report.specs.declared.role.Role.{Role}
 use Rattle.lw_report.specs.declared.role.Role.TheVariants.{Answers}
 use Rattle.lw_report.specs.declared.outcome.Outcome.{Outcome}
-use Rattle.lw_report.specs.declared.outcome.Outcome.TheVariants.{Learned, Trial, Yes, Served, No, Usage, BadFile, Alphabets, FileTooLong, Nondeterministic, NoMemory, SulFailed, Gone, BadLine, BadAsk, TooManyStates, SuiteTooLarge, FileFault, SourceFault, SinkFault, Compared, Asked, Rechecked, UnknownLetter, Unstarted, Accepted, BadAcceptor, NotAcceptor}
+use Rattle.lw_report.specs.declared.outcome.Outcome.TheVariants.{Learned, Trial, Yes, Served, No, Usage, BadFile, Alphabets, FileTooLong, Nondeterministic, NoMemory, SulFailed, Gone, BadLine, BadAsk, TooManyStates, SuiteTooLarge, FileFault, SourceFault, SinkFault, Compared, Asked, Helped, Rechecked, UnknownLetter, Unstarted, Accepted, BadAcceptor, NotAcceptor}
 
 blank : Answer
 blank = record { word = []; outs = [] }
@@ -76,6 +76,7 @@ module _ (method : Method) (p : Pair) (extra : ℕ) where
   yes_is n SourceFault f g = absurd g
   yes_is n (Compared comparison) f g = absurd g
   yes_is n Asked f g = absurd g
+  yes_is n Helped f g = absurd g
   yes_is n (Rechecked count) f g = absurd g
   yes_is n (Accepted states refinements) f g = absurd g
   yes_is n (BadAcceptor bad) f g = absurd g
@@ -106,6 +107,7 @@ module _ (method : Method) (p : Pair) (extra : ℕ) where
   no_is v SourceFault f g = absurd g
   no_is v (Compared comparison) f g = absurd g
   no_is v Asked f g = absurd g
+  no_is v Helped f g = absurd g
   no_is v (Rechecked count) f g = absurd g
   no_is v (Accepted states refinements) f g = absurd g
   no_is v (BadAcceptor bad) f g = absurd g
@@ -139,6 +141,7 @@ module _ (method : Method) (p : Pair) (extra : ℕ) where
   suite_is n s SourceFault f g = absurd g
   suite_is n s (Compared comparison) f g = absurd g
   suite_is n s Asked f g = absurd g
+  suite_is n s Helped f g = absurd g
   suite_is n s (Rechecked count) f g = absurd g
   suite_is n s (Accepted states refinements) f g = absurd g
   suite_is n s (BadAcceptor bad) f g = absurd g
@@ -169,6 +172,7 @@ module _ (method : Method) (p : Pair) (extra : ℕ) where
   other_names_is SourceFault f g = absurd g
   other_names_is (Compared comparison) f g = absurd g
   other_names_is Asked f g = absurd g
+  other_names_is Helped f g = absurd g
   other_names_is (Rechecked count) f g = absurd g
   other_names_is (Accepted states refinements) f g = absurd g
   other_names_is (BadAcceptor bad) f g = absurd g
@@ -199,6 +203,7 @@ module _ (method : Method) (p : Pair) (extra : ℕ) where
   clash_is c SourceFault f g = absurd g
   clash_is c (Compared comparison) f g = absurd g
   clash_is c Asked f g = absurd g
+  clash_is c Helped f g = absurd g
   clash_is c (Rechecked count) f g = absurd g
   clash_is c (Accepted states refinements) f g = absurd g
   clash_is c (BadAcceptor bad) f g = absurd g
@@ -229,6 +234,7 @@ one_decision method p extra (BadAsk number) two f g = absurd f
 one_decision method p extra SourceFault two f g = absurd f
 one_decision method p extra (Compared comparison) two f g = absurd f
 one_decision method p extra Asked two f g = absurd f
+one_decision method p extra Helped two f g = absurd f
 one_decision method p extra (Rechecked count) two f g = absurd f
 one_decision method p extra (Accepted states refinements) two f g = absurd f
 one_decision method p extra (BadAcceptor bad) two f g = absurd f

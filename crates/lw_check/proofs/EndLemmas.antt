@@ -15,7 +15,7 @@ use Rattle.lw_report.specs.Text.{text_of}
 use Rattle.lw_report.specs.Writing.{TakesSome}
 use Rattle.lw_report.specs.declared.role.Role.TheVariants as role
 use Rattle.lw_report.specs.declared.outcome.Outcome.{Outcome}
-use Rattle.lw_report.specs.declared.outcome.Outcome.TheVariants.{Learned, Trial, Yes, Served, No, Usage, BadFile, Alphabets, FileTooLong, Nondeterministic, NoMemory, SulFailed, Gone, BadLine, BadAsk, TooManyStates, SuiteTooLarge, FileFault, SourceFault, SinkFault, Compared, Asked, Rechecked, UnknownLetter, Unstarted, Accepted, BadAcceptor, NotAcceptor}
+use Rattle.lw_report.specs.declared.outcome.Outcome.TheVariants.{Learned, Trial, Yes, Served, No, Usage, BadFile, Alphabets, FileTooLong, Nondeterministic, NoMemory, SulFailed, Gone, BadLine, BadAsk, TooManyStates, SuiteTooLarge, FileFault, SourceFault, SinkFault, Compared, Asked, Helped, Rechecked, UnknownLetter, Unstarted, Accepted, BadAcceptor, NotAcceptor}
 use Rattle.lw_check.specs.Decision.{IsYesOrNo, IsDecision, IsFixed, Pair, pair_of}
 use Rattle.lw_names.specs.Naming.{Naming}
 use Rattle.lw_check.specs.Ending.{ComesTo, DecidesAs}
@@ -84,6 +84,7 @@ no_text aim model answers before now (BadAsk number) own u = absurd u
 no_text aim model answers before now SourceFault own u = absurd u
 no_text aim model answers before now (Compared comparison) own u = absurd u
 no_text aim model answers before now Asked own u = absurd u
+no_text aim model answers before now Helped own u = absurd u
 no_text aim model answers before now (Rechecked count) own u = absurd u
 no_text aim model answers before now (Accepted states refinements) own u = absurd u
 no_text aim model answers before now (BadAcceptor bad) own u = inr (inl u.1)
@@ -158,6 +159,7 @@ exact_unread aim model answers before now m a decision (BadAsk number) u tm ta =
 exact_unread aim model answers before now m a decision SourceFault u tm ta = absurd u
 exact_unread aim model answers before now m a decision (Compared comparison) u tm ta = absurd u
 exact_unread aim model answers before now m a decision Asked u tm ta = absurd u
+exact_unread aim model answers before now m a decision Helped u tm ta = absurd u
 exact_unread aim model answers before now m a decision (Rechecked count) u tm ta = absurd u
 exact_unread aim model answers before now m a decision (Accepted states refinements) u tm ta = absurd u
 exact_unread aim model answers before now m a decision (BadAcceptor bad) u tm ta = absurd (not_bad (IsModelFile aim) model m before.holds u.0.bytes tm u.0.read.held (subst (λ (g : Goal). (w : Machine) → ¬ IsModelFile g u.0.bytes w) (sym u.2) u.0.bad))

@@ -36,7 +36,7 @@ use Rattle.lw_system.proofs.ReadsLemmas.{made_none, made_then, read_made, read_n
 use Rattle.lw_report.specs.Refused.{IsRefused}
 use Rattle.lw_report.specs.Stops.{acceptor_outcome, no_acceptor_outcome, no_system_outcome, read_outcome, role_of, unread_outcome}
 use Rattle.lw_report.specs.declared.outcome.Outcome.{Outcome}
-use Rattle.lw_report.specs.declared.outcome.Outcome.TheVariants.{Learned, Trial, Yes, Served, No, Usage, BadFile, Alphabets, FileTooLong, Nondeterministic, NoMemory, SulFailed, Gone, BadLine, BadAsk, TooManyStates, SuiteTooLarge, FileFault, SourceFault, SinkFault, Compared, Asked, Rechecked, UnknownLetter, Unstarted, Accepted, BadAcceptor, NotAcceptor}
+use Rattle.lw_report.specs.declared.outcome.Outcome.TheVariants.{Learned, Trial, Yes, Served, No, Usage, BadFile, Alphabets, FileTooLong, Nondeterministic, NoMemory, SulFailed, Gone, BadLine, BadAsk, TooManyStates, SuiteTooLarge, FileFault, SourceFault, SinkFault, Compared, Asked, Helped, Rechecked, UnknownLetter, Unstarted, Accepted, BadAcceptor, NotAcceptor}
 use Rattle.lw_report.specs.declared.role.Role.{Role}
 use Rattle.lw_report.specs.declared.role.Role.TheVariants as role
 use Rattle.lw_learn.specs.Arguments.{LearnValues}
@@ -237,6 +237,7 @@ module _ (a : LearnValues) (f m g : FilesState) (s : System) (whole : SaysWhole 
     unfit p read kept was then SourceFault is = absurd is
     unfit p read kept was then (Compared comparison) is = absurd is
     unfit p read kept was then Asked is = absurd is
+    unfit p read kept was then Helped is = absurd is
     unfit p read kept was then (Rechecked answers) is = absurd is
     unfit p read kept was then (Accepted states refinements) is = absurd is
     unfit p read kept was then (BadAcceptor bad) is = absurd is

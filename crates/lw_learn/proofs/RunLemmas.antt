@@ -32,7 +32,7 @@ use Rattle.lw_report.specs.declared.role.Role.{Role}
 use Rattle.lw_report.specs.declared.role.Role.TheVariants.{Answers, Kept, Model}
 use Rattle.lw_report.specs.declared.role.Role.TheVariants as role
 use Rattle.lw_report.specs.declared.outcome.Outcome.{Outcome}
-use Rattle.lw_report.specs.declared.outcome.Outcome.TheVariants.{Learned, Trial, Yes, Served, No, Usage, BadFile, Alphabets, FileTooLong, Nondeterministic, NoMemory, SulFailed, Gone, BadLine, BadAsk, TooManyStates, SuiteTooLarge, FileFault, SourceFault, SinkFault, Compared, Asked, Rechecked, UnknownLetter, Unstarted, Accepted, BadAcceptor, NotAcceptor}
+use Rattle.lw_report.specs.declared.outcome.Outcome.TheVariants.{Learned, Trial, Yes, Served, No, Usage, BadFile, Alphabets, FileTooLong, Nondeterministic, NoMemory, SulFailed, Gone, BadLine, BadAsk, TooManyStates, SuiteTooLarge, FileFault, SourceFault, SinkFault, Compared, Asked, Helped, Rechecked, UnknownLetter, Unstarted, Accepted, BadAcceptor, NotAcceptor}
 use Rattle.lw_outside.proofs.SinkLemmas.{sink_none}
 use Rattle.lw_plain.specs.Rounds.{Task}
 use Rattle.lw_rounds.specs.Plain.{plain_task}
@@ -180,6 +180,7 @@ report_is P told (SuiteTooLarge states number) is here memory sink file = absurd
 report_is P told SourceFault is here memory sink file = absurd is
 report_is P told (Compared comparison) is here memory sink file = absurd is
 report_is P told Asked is here memory sink file = absurd is
+report_is P told Helped is here memory sink file = absurd is
 report_is P told (Rechecked answers) is here memory sink file = absurd is
 
 -- where a model was written out and nothing failed, it is told, or that it is no acceptor's, or memory ran out

@@ -31,7 +31,7 @@ use Rattle.lw_outside.specs.Files.{File, HoldsLong, file_at, longest_file, Files
 use Rattle.lw_json.specs.FitNames.{FitNames}
 use Rattle.lw_system.specs.Reading.{ReadsBadFile, TellsBad, TellsFile}
 use Rattle.lw_report.specs.declared.outcome.Outcome.{Outcome}
-use Rattle.lw_report.specs.declared.outcome.Outcome.TheVariants.{Learned, Trial, Yes, Served, No, Usage, BadFile, Alphabets, FileTooLong, Nondeterministic, NoMemory, SulFailed, Gone, BadLine, BadAsk, TooManyStates, SuiteTooLarge, FileFault, SourceFault, SinkFault, Compared, Asked, Rechecked, UnknownLetter, Unstarted, Accepted, BadAcceptor, NotAcceptor}
+use Rattle.lw_report.specs.declared.outcome.Outcome.TheVariants.{Learned, Trial, Yes, Served, No, Usage, BadFile, Alphabets, FileTooLong, Nondeterministic, NoMemory, SulFailed, Gone, BadLine, BadAsk, TooManyStates, SuiteTooLarge, FileFault, SourceFault, SinkFault, Compared, Asked, Helped, Rechecked, UnknownLetter, Unstarted, Accepted, BadAcceptor, NotAcceptor}
 use Rattle.lw_report.specs.declared.role.Role.{Role}
 use Rattle.lw_report.specs.declared.role.Role.TheVariants as role
 use Rattle.lw_learn.specs.Arguments.{LearnValues}
@@ -304,6 +304,7 @@ taken_by a f g read kept s told quiet (SuiteTooLarge states number) is = is
 taken_by a f g read kept s told quiet SourceFault is = is
 taken_by a f g read kept s told quiet (Compared comparison) is = is
 taken_by a f g read kept s told quiet Asked is = is
+taken_by a f g read kept s told quiet Helped is = is
 taken_by a f g read kept s told quiet (Rechecked answers) is = is
 taken_by a f g read kept s told quiet (UnknownLetter word place) is = is
 taken_by a f g read kept s told quiet (Unstarted cause) is = is
@@ -371,6 +372,7 @@ memory_alone file letters f g told quiet (SuiteTooLarge states number) is = absu
 memory_alone file letters f g told quiet SourceFault is = absurd is
 memory_alone file letters f g told quiet (Compared comparison) is = absurd is
 memory_alone file letters f g told quiet Asked is = absurd is
+memory_alone file letters f g told quiet Helped is = absurd is
 memory_alone file letters f g told quiet (Rechecked answers) is = absurd is
 memory_alone file letters f g told quiet (Accepted states refinements) is = absurd is
 memory_alone file letters f g told quiet (BadAcceptor bad) is = absurd is

@@ -16,7 +16,7 @@ use Rattle.lw_names.specs.Naming.{Naming}
 use Rattle.lw_report.specs.Stops.{read_outcome}
 use Rattle.lw_system.specs.Stops.{unread}
 use Rattle.lw_report.specs.declared.outcome.Outcome.{Outcome}
-use Rattle.lw_report.specs.declared.outcome.Outcome.TheVariants.{Learned, Trial, Yes, Served, No, Usage, BadFile, Alphabets, FileTooLong, Nondeterministic, NoMemory, SulFailed, Gone, BadLine, BadAsk, TooManyStates, SuiteTooLarge, FileFault, SourceFault, SinkFault, Compared, Asked, Rechecked, UnknownLetter, Unstarted, Accepted, BadAcceptor, NotAcceptor}
+use Rattle.lw_report.specs.declared.outcome.Outcome.TheVariants.{Learned, Trial, Yes, Served, No, Usage, BadFile, Alphabets, FileTooLong, Nondeterministic, NoMemory, SulFailed, Gone, BadLine, BadAsk, TooManyStates, SuiteTooLarge, FileFault, SourceFault, SinkFault, Compared, Asked, Helped, Rechecked, UnknownLetter, Unstarted, Accepted, BadAcceptor, NotAcceptor}
 use Rattle.lw_report.specs.declared.role.Role.TheVariants.{Words}
 use Rattle.lw_learn.specs.Arguments.{LearnValues}
 use Rattle.lw_learn.specs.Asking.{AreDrawn, IsWordless, IsWordsFile, SaysWords}
@@ -70,6 +70,7 @@ said_wordless name letters f g bytes read made (SuiteTooLarge states number) say
 said_wordless name letters f g bytes read made SourceFault says = absurd says
 said_wordless name letters f g bytes read made (Compared comparison) says = absurd says
 said_wordless name letters f g bytes read made Asked says = absurd says
+said_wordless name letters f g bytes read made Helped says = absurd says
 said_wordless name letters f g bytes read made (Rechecked answers) says = absurd says
 said_wordless name letters f g bytes read made (Accepted states refinements) says = absurd says
 said_wordless name letters f g bytes read made (BadAcceptor bad) says = absurd says

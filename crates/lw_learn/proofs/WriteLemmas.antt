@@ -14,7 +14,7 @@ use Rattle.lw_report.specs.declared.stops.TellStop.TheVariants.{File as FileStop
 use Rattle.lw_report.specs.declared.outcome.Outcome.{Outcome}
 use Rattle.lw_report.specs.declared.role.Role.{Role}
 use Rattle.lw_report.specs.declared.role.Role.TheVariants.{Answers, Kept, Model}
-use Rattle.lw_report.specs.declared.outcome.Outcome.TheVariants.{Learned, Trial, Yes, Served, No, Usage, BadFile, Alphabets, FileTooLong, Nondeterministic, NoMemory, SulFailed, Gone, BadLine, BadAsk, TooManyStates, SuiteTooLarge, FileFault, SourceFault, SinkFault, Compared, Asked, Rechecked, UnknownLetter, Unstarted, Accepted, BadAcceptor, NotAcceptor}
+use Rattle.lw_report.specs.declared.outcome.Outcome.TheVariants.{Learned, Trial, Yes, Served, No, Usage, BadFile, Alphabets, FileTooLong, Nondeterministic, NoMemory, SulFailed, Gone, BadLine, BadAsk, TooManyStates, SuiteTooLarge, FileFault, SourceFault, SinkFault, Compared, Asked, Helped, Rechecked, UnknownLetter, Unstarted, Accepted, BadAcceptor, NotAcceptor}
 use Rattle.lw_outside.proofs.SinkLemmas.{sink_none}
 use Rattle.lw_learn.specs.Arguments.{LearnValues}
 use Rattle.lw_learn.specs.Calls.{MadeWrites, all_writes}
@@ -146,6 +146,7 @@ by_told P learned accepted SourceFault is = absurd is
 by_told P learned accepted SinkFault is = absurd is
 by_told P learned accepted (Compared comparison) is = absurd is
 by_told P learned accepted Asked is = absurd is
+by_told P learned accepted Helped is = absurd is
 by_told P learned accepted (Rechecked answers) is = absurd is
 by_told P learned accepted (UnknownLetter word place) is = absurd is
 by_told P learned accepted (Unstarted cause) is = absurd is

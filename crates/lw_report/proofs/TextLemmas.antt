@@ -12,7 +12,7 @@ use Rattle.lw_report.specs.declared.comparison.Comparison.{Comparison}
 use Rattle.lw_report.specs.declared.role.Role.{Role}
 use Rattle.lw_report.specs.declared.outcome.Outcome.{Outcome}
 use Rattle.lw_report.specs.declared.outcome.Tried.{Tried}
-use Rattle.lw_report.specs.declared.outcome.Outcome.TheVariants.{Learned, Trial, Yes, Served, No, Usage, BadFile, Alphabets, FileTooLong, Nondeterministic, NoMemory, SulFailed, Gone, BadLine, BadAsk, TooManyStates, SuiteTooLarge, FileFault, SourceFault, SinkFault, Compared, Asked, Rechecked, UnknownLetter, Unstarted, Accepted, BadAcceptor, NotAcceptor}
+use Rattle.lw_report.specs.declared.outcome.Outcome.TheVariants.{Learned, Trial, Yes, Served, No, Usage, BadFile, Alphabets, FileTooLong, Nondeterministic, NoMemory, SulFailed, Gone, BadLine, BadAsk, TooManyStates, SuiteTooLarge, FileFault, SourceFault, SinkFault, Compared, Asked, Helped, Rechecked, UnknownLetter, Unstarted, Accepted, BadAcceptor, NotAcceptor}
 
 -- an outcome that is none of those with a text of their own
 pub not_own : (o : Outcome) → ((m : MealyMachine) (r : ℕ) → o ≡ Learned m r → ⊥) → ((t : Tried) → o ≡ Trial t → ⊥) → ((r : Role) (f : JsonFault) → o ≡ BadFile r f → ⊥) → ((ws : List (List ℕ)) → o ≡ TooManyStates ws → ⊥)
@@ -39,6 +39,7 @@ not_own (Accepted n r) learned trial bad many y n' c s failed gone line ask none
 not_own (BadAcceptor f) learned trial bad many y n c s failed gone line ask none two again letter accepted fault view own = fault f refl
 not_own (NotAcceptor q x) learned trial bad many y n c s failed gone line ask none two again letter accepted fault view own = view q x refl
 not_own Asked learned trial bad many y n c s failed gone line ask none two again letter accepted fault view own = own
+not_own Helped learned trial bad many y n c s failed gone line ask none two again letter accepted fault view own = own
 not_own (Served e) learned trial bad many y n c s failed gone line ask none two again letter accepted fault view own = own
 not_own Usage learned trial bad many y n c s failed gone line ask none two again letter accepted fault view own = own
 not_own (Alphabets r) learned trial bad many y n c s failed gone line ask none two again letter accepted fault view own = own

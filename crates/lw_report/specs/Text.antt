@@ -18,7 +18,7 @@ use Rattle.lw_report.specs.declared.comparison.Comparison.{Comparison}
 use Rattle.lw_report.specs.declared.comparison.Comparison.TheVariants.{Equal, Differ, OtherInputs}
 use Rattle.lw_report.specs.declared.outcome.Outcome.{Outcome}
 use Rattle.lw_report.specs.declared.outcome.Tried.{Tried}
-use Rattle.lw_report.specs.declared.outcome.Outcome.TheVariants.{Learned, Trial, Yes, Served, No, Usage, BadFile, Alphabets, FileTooLong, Nondeterministic, NoMemory, SulFailed, Gone, BadLine, BadAsk, TooManyStates, SuiteTooLarge, FileFault, SourceFault, SinkFault, Compared, Asked, Rechecked, UnknownLetter, Unstarted, Accepted, BadAcceptor, NotAcceptor}
+use Rattle.lw_report.specs.declared.outcome.Outcome.TheVariants.{Learned, Trial, Yes, Served, No, Usage, BadFile, Alphabets, FileTooLong, Nondeterministic, NoMemory, SulFailed, Gone, BadLine, BadAsk, TooManyStates, SuiteTooLarge, FileFault, SourceFault, SinkFault, Compared, Asked, Helped, Rechecked, UnknownLetter, Unstarted, Accepted, BadAcceptor, NotAcceptor}
 
 -- a word in quotes, its names joined by one blank, on a line of its own
 abbrev pub word_line : List (List ℕ) → List ℕ → List ℕ
@@ -61,19 +61,22 @@ crowd_line count = codes "too many states: " ++ (decimal count ++ codes " words 
 abbrev pub crowd_lines : List (List ℕ) → List (List ℕ) → List ℕ
 crowd_lines names words = crowd_line (length words) ++ flat_map (word_line names) words
 
+-- the arguments of each command: those of the first five lines, and what was added to these
 abbrev pub usage_lines : List ℕ
 usage_lines =
-    codes "usage: learn (SETUP | --table FILE) [--workers N] [--extra K] [--learner table|ttt] [--max-states N]\n"
-    ++ (codes "             [--model FILE] [--answers FILE] [--prior FILE] [--kept FILE]\n"
-    ++ (codes "             [--words FILE] [--random R --length L --seed S] [--log FILE] [--suite w|wp|h]\n"
-    ++ (codes "       accept (SETUP | --table FILE) [--workers N] [--extra K] [--learner table|ttt] [--max-states N]\n"
-    ++ (codes "              [--model FILE] [--kept FILE] [--words FILE] [--random R --length L --seed S] [--log FILE]\n"
-    ++ (codes "       check (MODEL | --acceptor FILE) ANSWERS [--extra K] [--suite w|wp|h]\n"
+    codes "usage: learn (SETUP | --table FILE) [--workers N] [--extra K] [--learner table|ttt] [--max-states N] [--model FILE] [--answers FILE] [--prior FILE] [--suite w|wp]\n"
+    ++ (codes "       accept (SETUP | --table FILE) [--workers N] [--extra K] [--learner table|ttt] [--max-states N] [--model FILE]\n"
+    ++ (codes "       check MODEL ANSWERS [--extra K] [--suite w|wp]\n"
     ++ (codes "       serve MODEL\n"
+    ++ (codes "       trial --states N --inputs A --seed S [--workers N] [--learner table|ttt]\n"
+    ++ (codes "added: learn .. [--kept FILE] [--words FILE] [--random R --length L --seed S] [--log FILE] [--suite w|wp|h]\n"
+    ++ (codes "       accept .. [--kept FILE] [--words FILE] [--random R --length L --seed S] [--log FILE]\n"
+    ++ (codes "       check (MODEL | --acceptor FILE) ANSWERS [--extra K] [--suite w|wp|h]\n"
     ++ (codes "       ask (SETUP | --table FILE | --accept SETUP | --acceptor FILE) WORD...\n"
     ++ (codes "       recheck SETUP ANSWERS\n"
     ++ (codes "       compare MODEL MODEL\n"
-    ++ codes "       trial --states N --inputs A --seed S [--workers N] [--learner table|ttt] [--suite w|wp|h]\n")))))))))
+    ++ (codes "       trial .. [--suite w|wp|h]\n"
+    ++ codes "       help [COMMAND]\n")))))))))))
 
 abbrev pub differs_line : ℕ → ℕ → List ℕ
 differs_line answer place = codes "no: answer " ++ (decimal answer ++ (codes " differs at place " ++ (decimal place ++ codes "\n")))
@@ -173,7 +176,7 @@ cause_text Unknown = codes "unknown cause"
 abbrev pub unstarted_line : StartFailure → List ℕ
 unstarted_line cause = codes "system not started: " ++ (cause_text cause ++ codes "\n")
 
--- the text of the outcome; nothing is said of a child that was served, or of words that were all answered
+-- the text of the outcome; nothing is said of a child that was served, of words that were all answered, or of help
 abbrev pub text_of : List (List ℕ) → List (List ℕ) → List KeptAnswer → ℕ → Outcome → List ℕ
 text_of inputs outputs kept extra (Learned model refinements) = learned_line (length model.rows) refinements extra (length kept)
 text_of inputs outputs kept extra (Accepted states refinements) = accepted_line states refinements extra (length kept)
@@ -184,6 +187,7 @@ text_of inputs outputs kept extra (Yes states) = yes_line states extra (length k
 text_of inputs outputs kept extra (Served served) = []
 text_of inputs outputs kept extra (Compared comparison) = comparison_lines comparison
 text_of inputs outputs kept extra Asked = []
+text_of inputs outputs kept extra Helped = []
 text_of inputs outputs kept extra (Rechecked answers) = rechecked_line answers
 text_of inputs outputs kept extra (No v) = no_line inputs v
 text_of inputs outputs kept extra Usage = usage_lines

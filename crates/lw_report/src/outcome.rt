@@ -43,6 +43,8 @@ pub enum Outcome {
     Compared(Comparison),
     /// Each word was asked, and answered.
     Asked,
+    /// The commands, or the arguments of one, were put out.
+    Helped,
     /// Each of this many answers was given again.
     Rechecked { answers: u64 },
     /// The answers don't fix the model, for this cause, which is none of `TooLarge` and `Sure`.
@@ -92,7 +94,8 @@ pub fn status(outcome: &Outcome) -> u8
 {
     match outcome {
         Outcome::Learned { .. } | Outcome::Trial(_) | Outcome::Yes { .. } | Outcome::Served(_) => 0,
-        Outcome::Accepted { .. } | Outcome::Asked | Outcome::Rechecked { .. } => 0,
+        Outcome::Accepted { .. } | Outcome::Asked | Outcome::Helped => 0,
+        Outcome::Rechecked { .. } => 0,
         Outcome::Compared(Comparison::Equal) => 0,
         Outcome::Compared(Comparison::Differ(_)) => 1,
         Outcome::Compared(Comparison::OtherInputs { .. }) => 3,

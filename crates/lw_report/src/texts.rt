@@ -21,17 +21,19 @@ use lw_words::{Kept, Names, NoMemory, Words, put_word};
 use std::alloc::Global;
 
 const USAGE: &str =
-    "usage: learn (SETUP | --table FILE) [--workers N] [--extra K] [--learner table|ttt] [--max-states N]
-             [--model FILE] [--answers FILE] [--prior FILE] [--kept FILE]
-             [--words FILE] [--random R --length L --seed S] [--log FILE] [--suite w|wp|h]
-       accept (SETUP | --table FILE) [--workers N] [--extra K] [--learner table|ttt] [--max-states N]
-              [--model FILE] [--kept FILE] [--words FILE] [--random R --length L --seed S] [--log FILE]
-       check (MODEL | --acceptor FILE) ANSWERS [--extra K] [--suite w|wp|h]
+    "usage: learn (SETUP | --table FILE) [--workers N] [--extra K] [--learner table|ttt] [--max-states N] [--model FILE] [--answers FILE] [--prior FILE] [--suite w|wp]
+       accept (SETUP | --table FILE) [--workers N] [--extra K] [--learner table|ttt] [--max-states N] [--model FILE]
+       check MODEL ANSWERS [--extra K] [--suite w|wp]
        serve MODEL
+       trial --states N --inputs A --seed S [--workers N] [--learner table|ttt]
+added: learn .. [--kept FILE] [--words FILE] [--random R --length L --seed S] [--log FILE] [--suite w|wp|h]
+       accept .. [--kept FILE] [--words FILE] [--random R --length L --seed S] [--log FILE]
+       check (MODEL | --acceptor FILE) ANSWERS [--extra K] [--suite w|wp|h]
        ask (SETUP | --table FILE | --accept SETUP | --acceptor FILE) WORD...
        recheck SETUP ANSWERS
        compare MODEL MODEL
-       trial --states N --inputs A --seed S [--workers N] [--learner table|ttt] [--suite w|wp|h]
+       trial .. [--suite w|wp|h]
+       help [COMMAND]
 ";
 
 /// What is written where memory runs out. Takes no memory itself.
@@ -180,7 +182,7 @@ pub(crate) fn fixed_text(outcome: &Outcome) -> Option<&'static str>
         Outcome::Compared(_) | Outcome::Rechecked { .. } => None,
         Outcome::UnknownLetter { .. } | Outcome::Accepted { .. } => None,
         Outcome::BadAcceptor(_) | Outcome::NotAcceptor { .. } => None,
-        Outcome::Served(_) | Outcome::Asked => Some(""),
+        Outcome::Served(_) | Outcome::Asked | Outcome::Helped => Some(""),
         Outcome::Alphabets(role) => Some(names_text(*role)),
         Outcome::Usage => Some(USAGE),
         Outcome::FileTooLong(role) => Some(too_long_text(*role)),

@@ -87,8 +87,10 @@ use Rattle.lw_serve.specs.ServeRun as serve
 use Rattle.lw_serve.specs.Outcomes as served
 use Rattle.lw_serve.specs.Playing.{PlaysTo}
 use Rattle.lw_trial.specs.TrialRun.{IsTrialOutcome, IsTrialRun}
-use Rattle.lw_top.specs.Call.{CallValues, Learn, Check, Trial as TrialCall, Serve, Ask, Compare, Recheck}
+use Rattle.lw_top.specs.Call.{CallValues, Learn, Check, Trial as TrialCall, Serve, Ask, Compare, Recheck, Help}
 use Rattle.lw_top.specs.CheckCommand.{CheckValues}
+use Rattle.lw_top.specs.HelpRun.{IsHelpRun}
+use Rattle.lw_top.proofs.HelpLemmas.{IsHelpOutcome, helps_fault, helps_never, helps_stop}
 use Rattle.lw_top.specs.FilePairs.{PairValues}
 use Rattle.lw_top.specs.Promises.{AcceptedIsRight, CausesAreTold, FaultsAreCounted, FindingsHold, InstanceStopped, LargeForSystem}
 use Rattle.lw_top.specs.Run.{ArgumentsAreRefused, Runs, TellsCause}
@@ -204,11 +206,11 @@ stands why outcome x (inl same) is other = sym same ∙ is
 stands why outcome x (inr wants) is other = absurd (other (sym wants.1 ∙ is))
 
 -- arguments that weren't taken
-module _ (before now : WorldState) (end : End) where
-  refused_never : ArgumentsAreRefused before now end → (x : Outcome) → end.outcome ≡ x → Usage ≢ x → NoMemory ≢ x → ⊥
+module _ (words : List (List ℕ)) (before now : WorldState) (end : End) where
+  refused_never : ArgumentsAreRefused words before now end → (x : Outcome) → end.outcome ≡ x → Usage ≢ x → NoMemory ≢ x → ⊥
   refused_never r x is usage memory = ⊎_elim (λ (e : end.outcome ≡ Usage). usage (sym e ∙ is)) (λ (e : end.outcome ≡ NoMemory). memory (sym e ∙ is)) r.outcome
 
-  refused_faults : ArgumentsAreRefused before now end → FaultsAreCounted before now end.outcome
+  refused_faults : ArgumentsAreRefused words before now end → FaultsAreCounted before now end.outcome
   refused_faults r = record {
     file = λ role is. absurd (refused_never r _ is (λ e. cc) (λ e. cc));
     source = λ is. absurd (refused_never r _ is (λ e. cc) (λ e. cc));
@@ -216,14 +218,14 @@ module _ (before now : WorldState) (end : End) where
     start = λ cause is. absurd (refused_never r _ is (λ e. cc) (λ e. cc));
   }
 
-  refused_stop : ArgumentsAreRefused before now end → (i : ℕ) (s : SulStop) → ¬ (end.outcome ≡ system_outcome i s)
+  refused_stop : ArgumentsAreRefused words before now end → (i : ℕ) (s : SulStop) → ¬ (end.outcome ≡ system_outcome i s)
   refused_stop r i s is =
       ⊎_elim
       (λ (e : end.outcome ≡ Usage). subst IsStop (sym is ∙ e) (stop_is i s))
       (λ (e : end.outcome ≡ NoMemory). subst IsStop (sym is ∙ e) (stop_is i s))
       r.outcome
 
-  refused_findings : ArgumentsAreRefused before now end → FindingsHold None before now end
+  refused_findings : ArgumentsAreRefused words before now end → FindingsHold None before now end
   refused_findings r = record {
     clash = λ clash is. absurd (refused_never r _ is (λ e. cc) (λ e. cc));
     crowd = λ words is. absurd (refused_never r _ is (λ e. cc) (λ e. cc));
@@ -1063,9 +1065,31 @@ module _ (a : LearnValues) (before now : WorldState) (end : End) (ran : IsLearnR
     };
   }
 
-module _ (before now : WorldState) (end : End) where
-  pub causes : (call : Option CallValues) → Runs call before now end → CausesAreTold call before now end
-  causes None r = record { usage = λ is. refl; faults = refused_faults before now end r; findings = refused_findings before now end r }
+-- `help`
+module _ (text : List ℕ) (before now : WorldState) (end : End) (ran : IsHelpRun text before.out now.out before.err now.err end) where
+  help_other : (x : Outcome) → end.outcome ≡ x → ¬ IsHelpOutcome x → ⊥
+  help_other x is none = helps_never text before.out now.out before.err now.err end ran x is none
+
+  help_causes : CausesAreTold (Some (Help text)) before now end
+  help_causes = record {
+    usage = λ is. absurd (help_other _ is (λ k. k));
+    faults = record {
+      file = λ role is. absurd (help_other _ is (λ k. k));
+      source = λ is. absurd (help_other _ is (λ k. k));
+      sink = λ is. inl (helps_fault text before.out now.out before.err now.err end ran is);
+      start = λ cause is. absurd (help_other _ is (λ k. k));
+    };
+    findings = record {
+      clash = λ clash is. absurd (help_other _ is (λ k. k));
+      crowd = λ words is. absurd (help_other _ is (λ k. k));
+      suite = λ states number is. absurd (help_other _ is (λ k. k));
+      stopped = λ i s is. absurd (helps_stop text before.out now.out before.err now.err end ran i s is);
+    };
+  }
+
+module _ (words : List (List ℕ)) (before now : WorldState) (end : End) where
+  pub causes : (call : Option CallValues) → Runs words call before now end → CausesAreTold call before now end
+  causes None r = record { usage = λ is. refl; faults = refused_faults words before now end r; findings = refused_findings words before now end r }
   causes (Some (Learn a)) r = learn_causes a before now end r.ran
   causes (Some (Check a)) r = checks_causes a before now end r.ran
   causes (Some (TrialCall v)) r = trials_causes v before now end r.ran
@@ -1073,9 +1097,10 @@ module _ (before now : WorldState) (end : End) where
   causes (Some (Ask a)) r = asks_causes a before now end r.ran r.cause
   causes (Some (Compare a)) r = compares_causes a before now end r.ran
   causes (Some (Recheck a)) r = recheck_causes a before now end r.ran r.cause
+  causes (Some (Help text)) r = help_causes text before now end r.ran
 
-  pub accepted : (call : Option CallValues) → Runs call before now end → AcceptedIsRight call before now end
-  accepted None r = (λ n m is. refused_never before now end r _ is (λ e. cc) (λ e. cc), λ q x is. refused_never before now end r _ is (λ e. cc) (λ e. cc))
+  pub accepted : (call : Option CallValues) → Runs words call before now end → AcceptedIsRight call before now end
+  accepted None r = (λ n m is. refused_never words before now end r _ is (λ e. cc) (λ e. cc), λ q x is. refused_never words before now end r _ is (λ e. cc) (λ e. cc))
   accepted (Some (Learn a)) r = acceptor_is_right a before now end r.ran
   accepted (Some (Check a)) r = (
     λ n m is. checks_never a before now end r.ran _ is (λ e. cc) (λ e. cc) (λ k. k) (λ p k. k),
@@ -1097,4 +1122,8 @@ module _ (before now : WorldState) (end : End) where
   accepted (Some (Recheck a)) r = (
     λ n m is. recheck_never a before now end r.ran r.cause _ is (λ e. cc) (λ e. cc) (λ k. k) (λ k. k) (λ k. k),
     λ q x is. recheck_never a before now end r.ran r.cause _ is (λ e. cc) (λ e. cc) (λ k. k) (λ k. k) (λ k. k),
+  )
+  accepted (Some (Help text)) r = (
+    λ n m is. helps_never text before.out now.out before.err now.err end r.ran _ is (λ k. k),
+    λ q x is. helps_never text before.out now.out before.err now.err end r.ran _ is (λ k. k),
   )

@@ -29,7 +29,7 @@ call_is name make args s w values was first is named made same = named_call args
 
 -- no command takes arguments whose first one has another name than each of them
 pub no_call : (args : List (String Global)) (s : String Global) (w : List ℕ) → Some s ≡ slice_get args 0 → w ≡ string_bytes s
-    → (w ≡ codes "learn" → ⊥) → (w ≡ codes "accept" → ⊥) → (w ≡ codes "check" → ⊥) → (w ≡ codes "trial" → ⊥) → (w ≡ codes "serve" → ⊥) → (w ≡ codes "ask" → ⊥) → (w ≡ codes "compare" → ⊥) → (w ≡ codes "recheck" → ⊥) → call_of (texts args) ≡ None
-no_call args s w first is learn accept check trial serve ask compare recheck =
+    → (w ≡ codes "learn" → ⊥) → (w ≡ codes "accept" → ⊥) → (w ≡ codes "check" → ⊥) → (w ≡ codes "trial" → ⊥) → (w ≡ codes "serve" → ⊥) → (w ≡ codes "ask" → ⊥) → (w ≡ codes "compare" → ⊥) → (w ≡ codes "recheck" → ⊥) → (w ≡ codes "help" → ⊥) → call_of (texts args) ≡ None
+no_call args s w first is learn accept check trial serve ask compare recheck help =
     named_call args s w first is
-    ∙ rw (is_other w (codes "learn") learn, is_other w (codes "accept") accept, is_other w (codes "check") check, is_other w (codes "trial") trial, is_other w (codes "serve") serve, is_other w (codes "ask") ask, is_other w (codes "compare") compare, is_other w (codes "recheck") recheck) refl
+    ∙ rw (is_other w (codes "learn") learn, is_other w (codes "accept") accept, is_other w (codes "check") check, is_other w (codes "trial") trial, is_other w (codes "serve") serve, is_other w (codes "ask") ask, is_other w (codes "compare") compare, is_other w (codes "recheck") recheck, is_other w (codes "help") help) refl

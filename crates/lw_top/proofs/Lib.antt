@@ -5,8 +5,11 @@ pub mod AskLemmas
 pub mod CommandLemmas
 pub mod CompareLemmas
 pub mod FixLemmas
+pub mod HelpLemmas
 pub mod OptionLemmas
+pub mod PageLemmas
 pub mod PromiseLemmas
+pub mod RangeLemmas
 pub mod RecheckLemmas
 pub mod RunLemmas
 pub mod ValueLemmas

@@ -30,7 +30,7 @@ use Rattle.lw_report.specs.Learnings.{HasModel, learn_outcome}
 use Rattle.lw_report.specs.Outcomes.{StandsOrWants}
 use Rattle.lw_report.specs.declared.«end».End.{End}
 use Rattle.lw_report.specs.declared.outcome.Outcome.{Outcome}
-use Rattle.lw_report.specs.declared.outcome.Outcome.TheVariants.{Learned, Trial, Yes, Served, No, Usage, BadFile, Alphabets, FileTooLong, Nondeterministic, NoMemory, SulFailed, Gone, BadLine, BadAsk, TooManyStates, SuiteTooLarge, FileFault, SourceFault, SinkFault, Compared, Asked, Rechecked, UnknownLetter, Unstarted, Accepted, BadAcceptor, NotAcceptor}
+use Rattle.lw_report.specs.declared.outcome.Outcome.TheVariants.{Learned, Trial, Yes, Served, No, Usage, BadFile, Alphabets, FileTooLong, Nondeterministic, NoMemory, SulFailed, Gone, BadLine, BadAsk, TooManyStates, SuiteTooLarge, FileFault, SourceFault, SinkFault, Compared, Asked, Helped, Rechecked, UnknownLetter, Unstarted, Accepted, BadAcceptor, NotAcceptor}
 use Rattle.lw_check.specs.CheckRun.{IsCheckRun}
 use Rattle.lw_check.specs.Decision.{IsFixed, Pair}
 use Rattle.lw_learn.specs.Arguments.{LearnValues}
@@ -44,10 +44,10 @@ use Rattle.lw_learn.specs.Unread.{IsUnreadAs, IsUnreadBy}
 use Rattle.lw_learn.specs.Writing.{NothingFailed}
 use Rattle.lw_recheck.specs.RecheckRun.{HasAskedSystem, HasNone, IsRecheckRun}
 use Rattle.lw_trial.specs.TrialRun.{IsTrialOutcome, IsTrialRun}
-use Rattle.lw_top.specs.Call.{CallValues, Learn, Check, Trial as TrialCall, Serve, Ask, Compare, Recheck}
+use Rattle.lw_top.specs.Call.{CallValues, Learn, Check, Trial as TrialCall, Serve, Ask, Compare, Recheck, Help}
 use Rattle.lw_top.specs.CheckCommand.{CheckValues}
 use Rattle.lw_top.specs.Promises.{AnswersFixModel, AsksNothing, FixModel, HandsModel, IsBeforeAsking, KeepsLearned, KeepsPrior, KeepsSystem, KeptAreRuns, LearnedIsRight, ModelIsReached, ModelIsRight, ReachesModel, SaysTask, YesIsRight}
-use Rattle.lw_top.specs.Run.{Runs}
+use Rattle.lw_top.specs.Run.{Runs, TellsNoMemory, TellsReason}
 use Rattle.lw_top.specs.World.{WorldState}
 use Rattle.lw_top.proofs.FixLemmas.{fix_file}
 
@@ -119,6 +119,7 @@ module _ (a : LearnValues) (f g now : FilesState) (read : Option System) (kept :
   unread_by SinkFault is = absurd is
   unread_by (Compared c) is = absurd is
   unread_by Asked is = absurd is
+  unread_by Helped is = absurd is
   unread_by (Rechecked answers) is = absurd is
   unread_by (Accepted states refinements) is = absurd is
   unread_by (BadAcceptor bad) is = (tt, inl is.3)
@@ -153,6 +154,7 @@ wordless_kind file letters f g SourceFault is = absurd is
 wordless_kind file letters f g SinkFault is = absurd is
 wordless_kind file letters f g (Compared c) is = absurd is
 wordless_kind file letters f g Asked is = absurd is
+wordless_kind file letters f g Helped is = absurd is
 wordless_kind file letters f g (Rechecked answers) is = absurd is
 wordless_kind file letters f g (Accepted states refinements) is = absurd is
 wordless_kind file letters f g (BadAcceptor bad) is = absurd is
@@ -299,9 +301,9 @@ rechecked a f g b z o p e d end run =
     (λ (none : HasNone a f g b z o p e d end). none.bare.model)
     run.came
 
-module _ (before now : WorldState) (end : End) where
-  pub learned : (call : Option CallValues) → Runs call before now end → LearnedIsRight call end
-  learned None r = r.ended.model
+module _ (words : List (List ℕ)) (before now : WorldState) (end : End) where
+  pub learned : (call : Option CallValues) → Runs words call before now end → LearnedIsRight call end
+  learned None r = ⊎_elim (λ (t : TellsReason words before.err now.err end). t.model) (λ (t : TellsNoMemory before.err now.err end). t.tells.model) r.ended
   learned (Some (Learn a)) r = hands a before now end r.ran
   learned (Some (Check a)) r = r.ran.no_model
   learned (Some (TrialCall a)) r = tried a before.out now.out before.err now.err end r.ran
@@ -309,6 +311,7 @@ module _ (before now : WorldState) (end : End) where
   learned (Some (Ask a)) r = r.ran.ended.model
   learned (Some (Compare models)) r = r.ran.no_model
   learned (Some (Recheck a)) r = rechecked a before.files now.files before.spawner now.spawner before.out now.out before.err now.err end r.ran
+  learned (Some (Help text)) r = r.ran.no_model
 
   fixes : (a : CheckValues) → IsCheckRun a.goal a.suite a.model a.answers a.extra before.files now.files before.out now.out before.err now.err end → (states : ℕ) → end.outcome ≡ Yes states → (fixed : AnswersFixModel a before.files now.files) × (states ≡ length fixed.model.mealy.rows)
   fixes a run states is =
@@ -327,7 +330,7 @@ module _ (before now : WorldState) (end : End) where
         s.3 ∙ ap (λ (p : Pair). length p.mealy.rows) s.1.pair,
       )
 
-  pub yes : (call : Option CallValues) → Runs call before now end → YesIsRight call before.files now.files end.outcome
+  pub yes : (call : Option CallValues) → Runs words call before now end → YesIsRight call before.files now.files end.outcome
   yes None r = tt
   yes (Some (Learn a)) r = tt
   yes (Some (Check a)) r = fixes a r.ran
@@ -336,8 +339,9 @@ module _ (before now : WorldState) (end : End) where
   yes (Some (Ask a)) r = tt
   yes (Some (Compare models)) r = tt
   yes (Some (Recheck a)) r = tt
+  yes (Some (Help text)) r = tt
 
-  pub kept : (call : Option CallValues) → Runs call before now end → KeptAreRuns call before now end
+  pub kept : (call : Option CallValues) → Runs words call before now end → KeptAreRuns call before now end
   kept None r = tt
   kept (Some (Learn a)) r = keeps a before now end r.ran
   kept (Some (Check a)) r = tt
@@ -346,8 +350,9 @@ module _ (before now : WorldState) (end : End) where
   kept (Some (Ask a)) r = tt
   kept (Some (Compare models)) r = tt
   kept (Some (Recheck a)) r = tt
+  kept (Some (Help text)) r = tt
 
-  pub reached : (call : Option CallValues) → Runs call before now end → ModelIsReached call before now end
+  pub reached : (call : Option CallValues) → Runs words call before now end → ModelIsReached call before now end
   reached None r = tt
   reached (Some (Learn a)) r = reaches a before now end r.ran
   reached (Some (Check a)) r = tt
@@ -356,3 +361,4 @@ module _ (before now : WorldState) (end : End) where
   reached (Some (Ask a)) r = tt
   reached (Some (Compare models)) r = tt
   reached (Some (Recheck a)) r = tt
+  reached (Some (Help text)) r = tt

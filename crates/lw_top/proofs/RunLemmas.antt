@@ -1,5 +1,5 @@
 -- Calls for whose arguments there was no memory.
-use Rattle.std.proofs.Common.{◌≡◌, ◌⊎◌, List, ℕ, [], ◌∷◌, Bool, true, false, codes, Option, Some, None, option_map, inl, inr, refl, sym, ap, ap₂, ◌∙◌, subst}
+use Rattle.std.proofs.Common.{◌≡◌, ◌⊎◌, ⊎_elim, List, ℕ, [], ◌∷◌, Bool, true, false, codes, Option, Some, None, option_map, inl, inr, refl, sym, ap, ap₂, ◌∙◌, subst}
 use Rattle.std.specs.Prelude.{◌||◌, if◌then◌else◌}
 use Rattle.std.specs.Str.{bytes_eq}
 use Rattle.std.proofs.lemmas.Bool.{true≢false}
@@ -18,26 +18,26 @@ use Rattle.lw_learn.specs.Unread.{IsUnreadBy}
 use Rattle.lw_system.proofs.ReadsLemmas.{made_none, some_made}
 use Rattle.lw_learn.proofs.RunLemmas.{none_saved}
 use Rattle.lw_report.specs.Text.{names_of}
-use Rattle.lw_top.specs.Call.{CallValues, Learn, Check, Trial, Serve, Ask, Compare, Recheck, call_of}
+use Rattle.lw_top.specs.Call.{CallValues, Learn, Check, Trial, Serve, Ask, Compare, Recheck, Help, call_of}
 use Rattle.lw_top.specs.AcceptCommand.{accept_values}
 use Rattle.lw_top.specs.AskCommand.{ask_values}
 use Rattle.lw_top.specs.CheckCommand.{check_values}
 use Rattle.lw_top.specs.CommandLine.{may_log}
 use Rattle.lw_top.specs.CompareCommand.{compare_values}
+use Rattle.lw_top.specs.HelpCommand.{help_values}
 use Rattle.lw_top.specs.LearnCommand.{learn_values}
 use Rattle.lw_top.specs.RecheckCommand.{recheck_values}
 use Rattle.lw_top.specs.ServeCommand.{serve_values}
 use Rattle.lw_top.specs.TrialCommand.{trial_values}
-use Rattle.lw_top.specs.Run.{Runs, TellsOutcome, argument_outcome}
+use Rattle.lw_top.specs.Run.{Runs, TellsNoMemory, TellsOutcome, TellsReason}
 use Rattle.lw_top.specs.World.{states}
 use Rattle.lw_top.proofs.AskLemmas.{wanted_ask}
 use Rattle.lw_top.proofs.CheckLemmas.{wanted_check}
 use Rattle.lw_top.proofs.CompareLemmas.{wanted_compare}
+use Rattle.lw_top.proofs.HelpLemmas.{wanted_help}
 use Rattle.lw_top.proofs.RecheckLemmas.{wanted_recheck}
 use Rattle.lw_top.proofs.ServeLemmas.{wanted_serve}
 use Rattle.lw_top.proofs.TrialLemmas.{wanted_trial}
-use Rattle.lw_top.specs.declared.values.ArgumentStop.{ArgumentStop}
-use Rattle.lw_top.specs.declared.values.ArgumentStop.TheVariants as stop
 
 -- the end of a call that touched nothing, which is out of memory, is one that `learn` may come to
 pub wanted_run : (a : LearnValues) (f : FilesState) (b : SpawnerState) (o e d : SinkState) (s : LogState) (end : End) → end.outcome ≡ NoMemory → TellsOutcome e d end → IsLearnRun a f f b b o o e d s end
@@ -64,19 +64,6 @@ wanted_run a f b o e d s end out r =
       });
       log = inr (out, refl);
     }
-
--- by the reason
-pub refused_usage : (s : ArgumentStop) (outcome : Outcome) → outcome ≡ argument_outcome s → outcome ≡ Usage → s ≡ stop.Usage
-refused_usage stop.Usage outcome is usage = refl
-refused_usage stop.NoMemory outcome is usage = let wrong : NoMemory ≡ Usage = sym is ∙ usage in absurd (cc)
-
-pub refused_as : (s : ArgumentStop) (outcome : Outcome) → outcome ≡ argument_outcome s → (outcome ≡ Usage) ⊎ (outcome ≡ NoMemory)
-refused_as stop.Usage outcome is = inl is
-refused_as stop.NoMemory outcome is = inr is
-
-pub not_usage : (s : ArgumentStop) (outcome : Outcome) → outcome ≡ argument_outcome s → (s ≡ stop.Usage → ⊥) → outcome ≡ NoMemory
-not_usage stop.Usage outcome is other = absurd (other refl)
-not_usage stop.NoMemory outcome is other = is
 
 no_cause : (spawner : SpawnerState) (outcome : Outcome) (cause : StartFailure) → outcome ≡ NoMemory → outcome ≡ Unstarted cause → cause ≡ spawner.cause
 no_cause spawner outcome cause out came = let wrong : NoMemory ≡ Unstarted cause = sym out ∙ came in absurd (cc)
@@ -133,23 +120,27 @@ names_learn (w ∷ ws) a is unnamed =
     (other_call (bytes_eq w (codes "serve")) Serve (serve_values words) _ a (λ x. tt)
     (other_call (bytes_eq w (codes "ask")) Ask (ask_values words) _ a (λ x. tt)
     (other_call (bytes_eq w (codes "compare")) Compare (compare_values words) _ a (λ x. tt)
-    (other_call (bytes_eq w (codes "recheck")) Recheck (recheck_values words) None a (λ x. tt) (λ e. let wrong : ◌≡◌ {A = Option CallValues} None (Some (Learn a)) = e in absurd (cc)))))))
+    (other_call (bytes_eq w (codes "recheck")) Recheck (recheck_values words) _ a (λ x. tt)
+    (other_call (bytes_eq w (codes "help")) Help (help_values words) None a (λ x. tt) (λ e. let wrong : ◌≡◌ {A = Option CallValues} None (Some (Learn a)) = e in absurd (cc))))))))
     (not_first (bytes_eq w (codes "accept")) (option_map Learn (accept_values words)) _ (Some (Learn a)) none.1 (not_first (bytes_eq w (codes "learn")) (option_map Learn (learn_values words)) _ (Some (Learn a)) none.0 is))
 
 -- where memory ran out while the arguments were read, the call came to an end that each command may come to
-module _ (f : FilesState) (b : SpawnerState) (i : SourceState) (o e d : SinkState) (l s : LogState) (end : End) (ended : TellsOutcome e d end) where
-  pub wanted : (call : Option CallValues) → end.outcome ≡ NoMemory → ((c : CallValues) → call ≡ Some c → IsOther c → s ≡ l) → Runs call (states f b i o e l) (states f b i o d s) end
-  wanted None out same = record { outcome = inr out; files = refl; spawner = refl; input = refl; out = refl; ended = ended }
-  wanted (Some (Learn a)) out same = record { ran = wanted_run a f b o e d s end out ended; input = refl }
-  wanted (Some (Check a)) out same = record { ran = wanted_check a.goal a.suite a.model a.answers a.extra f o e d end out ended; spawner = refl; input = refl; log = same (Check a) refl tt }
-  wanted (Some (Trial a)) out same = record { ran = wanted_trial a f o e d end out ended; files = refl; spawner = refl; input = refl; log = same (Trial a) refl tt }
-  wanted (Some (Serve m)) out same = record { ran = wanted_serve m f i o e d end out ended; spawner = refl; log = same (Serve m) refl tt }
-  wanted (Some (Ask a)) out same = record { ran = wanted_ask a f b o e d end out ended; cause = λ cause came. no_cause b end.outcome cause out came; input = refl; log = same (Ask a) refl tt }
-  wanted (Some (Compare p)) out same = record { ran = wanted_compare p.first p.second f o e d end out ended; spawner = refl; input = refl; log = same (Compare p) refl tt }
-  wanted (Some (Recheck a)) out same = record { ran = wanted_recheck a f b o e d end out ended; cause = λ cause came. no_cause b end.outcome cause out came; input = refl; log = same (Recheck a) refl tt }
+module _ (f : FilesState) (b : SpawnerState) (i : SourceState) (o e d : SinkState) (l s : LogState) (end : End) (words : List (List ℕ)) where
+  pub wanted : (call : Option CallValues) → TellsOutcome e d end → end.outcome ≡ NoMemory → ((c : CallValues) → call ≡ Some c → IsOther c → s ≡ l) → Runs words call (states f b i o e l) (states f b i o d s) end
+  wanted None ended out same = record { outcome = inr out; files = refl; spawner = refl; input = refl; out = refl; ended = inr (record { outcome = out; tells = ended }) }
+  wanted (Some (Learn a)) ended out same = record { ran = wanted_run a f b o e d s end out ended; input = refl }
+  wanted (Some (Check a)) ended out same = record { ran = wanted_check a.goal a.suite a.model a.answers a.extra f o e d end out ended; spawner = refl; input = refl; log = same (Check a) refl tt }
+  wanted (Some (Trial a)) ended out same = record { ran = wanted_trial a f o e d end out ended; files = refl; spawner = refl; input = refl; log = same (Trial a) refl tt }
+  wanted (Some (Serve m)) ended out same = record { ran = wanted_serve m f i o e d end out ended; spawner = refl; log = same (Serve m) refl tt }
+  wanted (Some (Ask a)) ended out same = record { ran = wanted_ask a f b o e d end out ended; cause = λ cause came. no_cause b end.outcome cause out came; input = refl; log = same (Ask a) refl tt }
+  wanted (Some (Compare p)) ended out same = record { ran = wanted_compare p.first p.second f o e d end out ended; spawner = refl; input = refl; log = same (Compare p) refl tt }
+  wanted (Some (Recheck a)) ended out same = record { ran = wanted_recheck a f b o e d end out ended; cause = λ cause came. no_cause b end.outcome cause out came; input = refl; log = same (Recheck a) refl tt }
+  wanted (Some (Help text)) ended out same = record { ran = wanted_help text o e d end out ended; files = refl; spawner = refl; input = refl; log = same (Help text) refl tt }
 
-  -- by why the arguments weren't taken
-  pub refused : (reason : ArgumentStop) (call : Option CallValues) → end.outcome ≡ argument_outcome reason → (reason ≡ stop.Usage → call ≡ None) → ((c : CallValues) → call ≡ Some c → IsOther c → s ≡ l)
-      → Runs call (states f b i o e l) (states f b i o d s) end
-  refused stop.Usage call is none same = subst (λ (c : Option CallValues). Runs c (states f b i o e l) (states f b i o d s) end) (sym (none refl)) (record { outcome = inl is; files = refl; spawner = refl; input = refl; out = refl; ended = ended })
-  refused stop.NoMemory call is none same = wanted call is same
+  -- by what was said
+  pub refused : (call : Option CallValues) → TellsReason words e d end ⊎ TellsNoMemory e d end → (end.outcome ≡ Usage → call ≡ None) → ((c : CallValues) → call ≡ Some c → IsOther c → s ≡ l) → Runs words call (states f b i o e l) (states f b i o d s) end
+  refused call ended none same =
+      ⊎_elim
+      (λ (t : TellsReason words e d end). subst (λ (c : Option CallValues). Runs words c (states f b i o e l) (states f b i o d s) end) (sym (none t.outcome)) (record { outcome = inl t.outcome; files = refl; spawner = refl; input = refl; out = refl; ended = inl t }))
+      (λ (t : TellsNoMemory e d end). wanted call t.tells t.outcome same)
+      ended

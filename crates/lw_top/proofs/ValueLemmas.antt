@@ -11,41 +11,11 @@ use Rattle.clap.specs.ValueTests.{is_unsigned_in}
 use Rattle.clap.specs.Values.{Accepts, kind_of}
 use Rattle.clap.specs.declared.builder.value_parser.ValueParser.TheVariants as vp
 use Rattle.clap.specs.declared.error.Error.{Error}
+use Rattle.lw_top.proofs.RangeLemmas.{in_range_is, unread}
 use Rattle.lw_top.specs.CommandLine.{is_faultless, number_in_range, refusal_of}
 use Rattle.lw_top.specs.declared.ranges.Range.{Range}
 use Rattle.lw_top.specs.declared.values.ArgumentStop.{ArgumentStop}
 use Rattle.lw_top.specs.declared.values.ArgumentStop.TheVariants.{NoMemory, Usage}
-
--- two tests that say the same
-same_tests : (a b : Bool) → (a ≡ true → b ≡ true) → (b ≡ true → a ≡ true) → a ≡ b
-same_tests true true there back = refl
-same_tests true false there back = sym (there refl)
-same_tests false true there back = back refl
-same_tests false false there back = refl
-
-abbrev in_range : ℕ → ℕ → ℕ → Bool
-in_range low high n = nat_le low n && nat_le n high
-
--- a number that was read is in the range exactly where its text is
-in_range_is : (low high : ℕ) (text : List ℕ) → IsNumeral 10 (without_leading_plus text) → digits_value 10 (without_leading_plus text) < 2 ^ 64
-    → in_range low high (digits_value 10 (without_leading_plus text)) ≡ is_unsigned_in low high text
-in_range_is low high text numeral small =
-    let n = digits_value 10 (without_leading_plus text) in
-    same_tests (in_range low high n) (is_unsigned_in low high text)
-    (λ e. let two = both (nat_le low n) (nat_le n high) e in Accepts-accepts false (vp.Unsigned low high) text (numeral, small, leb-true _ _ two.0, leb-true _ _ two.1))
-    (λ e. let h : Accepts false (vp.Unsigned low high) text = accepts-Accepts false (vp.Unsigned low high) text e in joined (nat_le low n) (nat_le n high) (le-leb _ _ h.2) (le-leb _ _ h.3))
-  where
-    joined : (a b : Bool) → a ≡ true → b ≡ true → (a && b) ≡ true
-    joined true b one two = two
-    joined false b one two = one
-
--- a text that was not read as a number is in no range
-unread : (low high : ℕ) (text : List ℕ) → ¬ (IsNumeral 10 (without_leading_plus text) × (digits_value 10 (without_leading_plus text) < 2 ^ 64)) → is_unsigned_in low high text ≡ false
-unread low high text other = go (is_unsigned_in low high text) refl
-  where
-    go : (b : Bool) → is_unsigned_in low high text ≡ b → is_unsigned_in low high text ≡ false
-    go true e = let h : Accepts false (vp.Unsigned low high) text = accepts-Accepts false (vp.Unsigned low high) text e in absurd (other (h.0, h.1))
-    go false e = e
 
 -- the number that was read of a text, within a range
 pub reads_number : {E : Type 0} (G : List ℕ → Result ℕ E → Type 0) → ((u : List ℕ) (x : Result ℕ E) → G u x → ParsesUnsigned 64 10 u x) → (range : Range) (t : Option (List ℕ)) (r : Option ℕ)

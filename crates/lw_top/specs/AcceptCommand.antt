@@ -1,32 +1,44 @@
 -- The command `accept` as clap sees it, and what arguments that it takes say: those of a learning, by the W-method, behind no prior
 -- answers, that writes no answers file.
-use Rattle.std.specs.Prelude.{ℕ, List, [], ◌∷◌, codes, Option, Some, None}
+use Rattle.std.specs.Prelude.{ℕ, List, [], ◌∷◌, codes, Option, Some, None, false}
 use Rattle.clap.specs.Words.{App, Row, first_of}
 use Rattle.lw_chunks.specs.declared.method.Method.TheVariants.{W}
 use Rattle.lw_learn.specs.Arguments.{LearnValues}
 use Rattle.lw_system.specs.declared.goal.Goal.TheVariants.{Acceptor}
-use Rattle.lw_top.specs.CommandLine.{values_taken, app_with, default_option, free_number, number_option, optional_argument, text_option}
+use Rattle.lw_top.specs.CommandLine.{app_by, values_taken}
+use Rattle.lw_top.specs.Syntaxes.{SyntaxValues, Text, entry, extra_entry, kept_entry, learner_entry, length_entry, log_entry, random_entry, seed_entry, setup_entry, states_entry, words_entry, workers_entry}
 use Rattle.lw_top.specs.LearnCommand.{LearnFileNames, drawn_in, learn_values_from, settings_by, source_in}
-use Rattle.lw_top.specs.declared.ranges.TheConstants.{EXTRA, LENGTH, RANDOM, SEED, STATES, WORKERS}
 
 -- accept (SETUP | --table FILE) [--workers N] [--extra K] [--learner table|ttt] [--max-states N] [--model FILE] [--kept FILE] [--words FILE]
 -- [--random R --length L --seed S] [--log FILE]
+abbrev pub accept_syntax : SyntaxValues
+accept_syntax = record {
+  command = codes "accept";
+  about = codes "learns which words a program accepts, or the acceptor of a file";
+  entries =
+      setup_entry
+      ∷ entry (Text (codes "table")) (codes "FILE") (codes "the file of an acceptor in place of the setup")
+      ∷ workers_entry
+      ∷ extra_entry
+      ∷ learner_entry
+      ∷ states_entry
+      ∷ entry (Text (codes "model")) (codes "FILE") (codes "where the acceptor is written")
+      ∷ kept_entry
+      ∷ words_entry
+      ∷ random_entry
+      ∷ length_entry
+      ∷ seed_entry
+      ∷ log_entry
+      ∷ [];
+  texts = codes "SETUP" ∷ [];
+  takes_more = false;
+  in_place = codes "table" ∷ [];
+  together = codes "random" ∷ codes "length" ∷ codes "seed" ∷ [];
+}
+
+-- as clap sees it
 abbrev pub accept_app : App
-accept_app = app_with (codes "accept")
-    (optional_argument (codes "setup")
-    ∷ text_option (codes "table")
-    ∷ number_option (codes "workers") WORKERS (codes "1")
-    ∷ number_option (codes "extra") EXTRA (codes "1")
-    ∷ default_option (codes "learner") (codes "table")
-    ∷ number_option (codes "max-states") STATES (codes "1024")
-    ∷ text_option (codes "model")
-    ∷ text_option (codes "kept")
-    ∷ text_option (codes "words")
-    ∷ free_number (codes "random") RANDOM
-    ∷ free_number (codes "length") LENGTH
-    ∷ free_number (codes "seed") SEED
-    ∷ text_option (codes "log")
-    ∷ [])
+accept_app = app_by accept_syntax
 
 -- the names of the other files
 abbrev pub accept_files_in : List Row → LearnFileNames

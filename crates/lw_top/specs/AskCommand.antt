@@ -1,16 +1,34 @@
 -- The command `ask` as clap sees it, and what arguments that it takes say.
-use Rattle.std.specs.Prelude.{ℕ, List, [], ◌∷◌, codes, Option, Some, None, unwrap_or}
+use Rattle.std.specs.Prelude.{ℕ, List, [], ◌∷◌, codes, Option, Some, None, unwrap_or, true}
 use Rattle.clap.specs.Words.{App, Row, all_of, first_of}
 use Rattle.lw_ask.specs.Arguments.{AskValues}
 use Rattle.lw_system.specs.declared.goal.Goal.{Goal}
 use Rattle.lw_system.specs.declared.goal.Goal.TheVariants.{Machine, Acceptor}
 use Rattle.lw_system.specs.declared.source.Source.{Source}
 use Rattle.lw_system.specs.declared.source.Source.TheVariants.{Setup, Table}
-use Rattle.lw_top.specs.CommandLine.{values_taken, app_with, many_arguments, text_option}
+use Rattle.lw_top.specs.CommandLine.{app_by, values_taken}
+use Rattle.lw_top.specs.Syntaxes.{Many, SyntaxValues, Text, entry}
 
 -- ask (SETUP | --table FILE | --accept SETUP | --acceptor FILE) WORD...
+abbrev pub ask_syntax : SyntaxValues
+ask_syntax = record {
+  command = codes "ask";
+  about = codes "asks a program, a machine or an acceptor words";
+  entries =
+      entry (Text (codes "table")) (codes "FILE") (codes "the file of a machine in place of the setup")
+      ∷ entry (Text (codes "accept")) (codes "SETUP") (codes "the setup of a program that is asked as acceptors are")
+      ∷ entry (Text (codes "acceptor")) (codes "FILE") (codes "the file of an acceptor in place of the setup")
+      ∷ entry (Many (codes "words")) (codes "(SETUP | --table FILE | --accept SETUP | --acceptor FILE) WORD...") (codes "the setup, where no option is in its place, and words")
+      ∷ [];
+  texts = codes "SETUP" ∷ codes "WORD" ∷ [];
+  takes_more = true;
+  in_place = codes "table" ∷ codes "accept" ∷ codes "acceptor" ∷ [];
+  together = [];
+}
+
+-- as clap sees it
 abbrev pub ask_app : App
-ask_app = app_with (codes "ask") (text_option (codes "table") ∷ text_option (codes "accept") ∷ text_option (codes "acceptor") ∷ many_arguments (codes "words") ∷ [])
+ask_app = app_by ask_syntax
 
 -- a system that an option names: whether a machine is asked or an acceptor, the kind of its file, and the file
 pub record NamedSystem : Type 0 where

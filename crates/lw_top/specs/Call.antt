@@ -10,6 +10,7 @@ use Rattle.lw_top.specs.AskCommand.{ask_values}
 use Rattle.lw_top.specs.CheckCommand.{CheckValues, check_read, check_values}
 use Rattle.lw_top.specs.CompareCommand.{compare_values}
 use Rattle.lw_top.specs.FilePairs.{PairValues}
+use Rattle.lw_top.specs.HelpCommand.{help_values, topic_text}
 use Rattle.lw_top.specs.LearnCommand.{learn_values}
 use Rattle.lw_top.specs.RecheckCommand.{recheck_values}
 use Rattle.lw_top.specs.ServeCommand.{serve_values}
@@ -26,6 +27,8 @@ pub data CallValues : Type 0 where
   Ask : AskValues → CallValues
   Compare : PairValues → CallValues
   Recheck : RecheckValues → CallValues
+  -- by the text that is asked for
+  Help : List ℕ → CallValues
 
 -- the call of the command with this name, or None where there is no such command, or it doesn't take the arguments
 abbrev pub call_named : List ℕ → List (List ℕ) → Option CallValues
@@ -38,6 +41,7 @@ call_named name words =
     else if bytes_eq name (codes "ask") then option_map Ask (ask_values words)
     else if bytes_eq name (codes "compare") then option_map Compare (compare_values words)
     else if bytes_eq name (codes "recheck") then option_map Recheck (recheck_values words)
+    else if bytes_eq name (codes "help") then option_map Help (help_values words)
     else None
 
 -- the call that the arguments make: the first names the command
@@ -53,3 +57,4 @@ values_of (read.Serve model) = Serve (string_bytes model)
 values_of (read.Ask values) = Ask values
 values_of (read.Compare pair) = Compare pair
 values_of (read.Recheck values) = Recheck values
+values_of (read.Help topic) = Help (topic_text topic)

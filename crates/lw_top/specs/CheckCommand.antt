@@ -1,11 +1,12 @@
 -- The command `check` as clap sees it, and what arguments that it takes say.
-use Rattle.std.specs.Prelude.{ℕ, List, [], ◌∷◌, codes, string_bytes, Option, Some, None, option_and_then}
+use Rattle.std.specs.Prelude.{ℕ, List, [], ◌∷◌, codes, string_bytes, Option, Some, None, option_and_then, false}
 use Rattle.clap.specs.Words.{App, Row, first_of}
 use Rattle.lw_chunks.specs.declared.method.Method.{Method}
 use Rattle.lw_check.specs.declared.arguments.CheckArguments.{CheckArguments}
 use Rattle.lw_system.specs.declared.goal.Goal.{Goal}
 use Rattle.lw_system.specs.declared.goal.Goal.TheVariants.{Machine, Acceptor}
-use Rattle.lw_top.specs.CommandLine.{method_named, number_given, values_taken, app_with, default_option, number_option, optional_argument, text_option}
+use Rattle.lw_top.specs.CommandLine.{app_by, method_named, number_given, values_taken}
+use Rattle.lw_top.specs.Syntaxes.{Optional, SyntaxValues, Text, entry, extra_entry, suite_entry}
 use Rattle.lw_top.specs.declared.ranges.TheConstants.{EXTRA}
 
 -- the values of the arguments of `check`: whether the model file is a machine's or an acceptor's, the model file, the answers
@@ -22,14 +23,26 @@ abbrev pub check_read : CheckArguments → CheckValues
 check_read a = record { goal = a.goal; model = string_bytes a.model; answers = string_bytes a.answers; extra = a.extra; suite = a.suite }
 
 -- check (MODEL | --acceptor FILE) ANSWERS [--extra K] [--suite w|wp|h]
+abbrev pub check_syntax : SyntaxValues
+check_syntax = record {
+  command = codes "check";
+  about = codes "says whether answers fix a model, or why not";
+  entries =
+      entry (Optional (codes "first")) (codes "(MODEL | --acceptor FILE)") (codes "the file of the model")
+      ∷ entry (Optional (codes "second")) (codes "ANSWERS") (codes "the file of the answers")
+      ∷ entry (Text (codes "acceptor")) (codes "FILE") (codes "the file of an acceptor in place of the model")
+      ∷ extra_entry
+      ∷ suite_entry
+      ∷ [];
+  texts = codes "MODEL" ∷ codes "ANSWERS" ∷ [];
+  takes_more = false;
+  in_place = codes "acceptor" ∷ [];
+  together = [];
+}
+
+-- as clap sees it
 abbrev pub check_app : App
-check_app = app_with (codes "check")
-    (optional_argument (codes "first")
-    ∷ optional_argument (codes "second")
-    ∷ text_option (codes "acceptor")
-    ∷ number_option (codes "extra") EXTRA (codes "1")
-    ∷ default_option (codes "suite") (codes "w")
-    ∷ [])
+check_app = app_by check_syntax
 
 -- the two files, and whether the first is an acceptor's
 pub record CheckedFiles : Type 0 where

@@ -5,8 +5,9 @@ use Rattle.clap.specs.Words.{App, Rule, new_app, new_rule, Row, matches_of, one_
 use Rattle.clap.specs.declared.builder.action.ArgAction.TheVariants.{Append, Set}
 use Rattle.clap.specs.declared.builder.value_parser.ValueParser.TheVariants.{Unsigned}
 use Rattle.lw_top.specs.declared.options.Argument.{Argument}
-use Rattle.lw_top.specs.declared.options.Argument.TheVariants as takes
 use Rattle.lw_top.specs.declared.options.Syntax.{Syntax}
+use Rattle.lw_top.specs.Syntaxes.{ArgumentValues, SyntaxValues, argument_values}
+use Rattle.lw_top.specs.Syntaxes as takes
 use Rattle.lw_top.specs.declared.ranges.Range.{Range}
 use Rattle.std.specs.declared.alloc.Global.{Global}
 use Rattle.std.specs.Str.{bytes_eq}
@@ -57,22 +58,29 @@ optional_argument name = record (new_rule name) { action = Some Set }
 abbrev pub many_arguments : List ℕ → Rule
 many_arguments name = record (new_rule name) { action = Some Append }
 
-abbrev pub rule_for : Argument → Rule
-rule_for (takes.Text name) = text_option name.now
-rule_for (takes.TextOr name default) = default_option name.now default.now
-rule_for (takes.Number name range) = free_number name.now range
-rule_for (takes.NumberOr name range default) = number_option name.now range default.now
-rule_for (takes.RequiredNumber name range) = required_number name.now range
-rule_for (takes.Required name) = required_argument name.now
-rule_for (takes.Optional name) = optional_argument name.now
-rule_for (takes.Many name) = many_arguments name.now
+abbrev pub rule_for : ArgumentValues → Rule
+rule_for (takes.Text name) = text_option name
+rule_for (takes.OneOf name choices default) = default_option name default
+rule_for (takes.Number name range) = free_number name range
+rule_for (takes.NumberOr name range default) = number_option name range default
+rule_for (takes.RequiredNumber name range) = required_number name range
+rule_for (takes.Required name) = required_argument name
+rule_for (takes.Optional name) = optional_argument name
+rule_for (takes.Many name) = many_arguments name
+
+abbrev pub rule_of_argument : Argument → Rule
+rule_of_argument argument = rule_for (argument_values argument)
 
 -- a command with these arguments and no others
 abbrev pub app_with : List ℕ → List Rule → App
 app_with name rules = record (new_app name) { top = record (new_shape name) { rules = rules } }
 
+-- a command by its data
+abbrev pub app_by : SyntaxValues → App
+app_by syntax = app_with syntax.command (map (λ e. rule_for e.argument) syntax.entries)
+
 abbrev pub app_for : Syntax → App
-app_for syntax = app_with syntax.command.now (map rule_for syntax.arguments.now)
+app_for syntax = app_with syntax.command.now (map (λ e. rule_of_argument e.argument) syntax.entries.now)
 
 -- What the arguments say.
 

@@ -1,5 +1,5 @@
 -- The command `learn` as clap sees it, and what arguments that it takes say.
-use Rattle.std.specs.Prelude.{ℕ, List, [], ◌∷◌, codes, Option, Some, None, option_and_then, option_map, string_bytes}
+use Rattle.std.specs.Prelude.{ℕ, List, [], ◌∷◌, codes, Option, Some, None, option_and_then, option_map, string_bytes, false}
 use Rattle.clap.specs.Words.{App, Row, first_of}
 use Rattle.lw_rounds.specs.declared.learner.Kind.{Kind}
 use Rattle.lw_rounds.specs.declared.settings.Settings.{Settings}
@@ -11,30 +11,43 @@ use Rattle.lw_system.specs.declared.goal.Goal.{Goal}
 use Rattle.lw_system.specs.declared.goal.Goal.TheVariants.{Machine}
 use Rattle.lw_system.specs.declared.source.Source.{Source}
 use Rattle.lw_system.specs.declared.source.Source.TheVariants.{Setup, Table}
-use Rattle.lw_top.specs.CommandLine.{kind_named, method_named, number_given, values_taken, app_with, default_option, free_number, number_option, optional_argument, text_option}
+use Rattle.lw_top.specs.CommandLine.{app_by, kind_named, method_named, number_given, values_taken}
+use Rattle.lw_top.specs.Syntaxes.{SyntaxValues, Text, entry, extra_entry, kept_entry, learner_entry, length_entry, log_entry, model_entry, random_entry, seed_entry, setup_entry, states_entry, suite_entry, table_entry, words_entry, workers_entry}
 use Rattle.lw_top.specs.declared.ranges.TheConstants.{EXTRA, LENGTH, RANDOM, SEED, STATES, WORKERS}
 
 -- learn (SETUP | --table FILE) [--workers N] [--extra K] [--learner table|ttt] [--max-states N] [--model FILE] [--answers FILE] [--prior FILE]
 -- [--kept FILE] [--words FILE] [--random R --length L --seed S] [--log FILE] [--suite w|wp|h]
+abbrev pub learn_syntax : SyntaxValues
+learn_syntax = record {
+  command = codes "learn";
+  about = codes "learns a program, or the machine of a file";
+  entries =
+      setup_entry
+      ∷ table_entry
+      ∷ workers_entry
+      ∷ extra_entry
+      ∷ learner_entry
+      ∷ states_entry
+      ∷ model_entry
+      ∷ entry (Text (codes "answers")) (codes "FILE") (codes "where the recorded answers are written with the model")
+      ∷ entry (Text (codes "prior")) (codes "FILE") (codes "recorded answers of an earlier call, to begin with")
+      ∷ kept_entry
+      ∷ words_entry
+      ∷ random_entry
+      ∷ length_entry
+      ∷ seed_entry
+      ∷ log_entry
+      ∷ suite_entry
+      ∷ [];
+  texts = codes "SETUP" ∷ [];
+  takes_more = false;
+  in_place = codes "table" ∷ [];
+  together = codes "random" ∷ codes "length" ∷ codes "seed" ∷ [];
+}
+
+-- as clap sees it
 abbrev pub learn_app : App
-learn_app = app_with (codes "learn")
-    (optional_argument (codes "setup")
-    ∷ text_option (codes "table")
-    ∷ number_option (codes "workers") WORKERS (codes "1")
-    ∷ number_option (codes "extra") EXTRA (codes "1")
-    ∷ default_option (codes "learner") (codes "table")
-    ∷ number_option (codes "max-states") STATES (codes "1024")
-    ∷ text_option (codes "model")
-    ∷ text_option (codes "answers")
-    ∷ text_option (codes "prior")
-    ∷ text_option (codes "kept")
-    ∷ text_option (codes "words")
-    ∷ free_number (codes "random") RANDOM
-    ∷ free_number (codes "length") LENGTH
-    ∷ free_number (codes "seed") SEED
-    ∷ text_option (codes "log")
-    ∷ default_option (codes "suite") (codes "w")
-    ∷ [])
+learn_app = app_by learn_syntax
 
 -- the file of the system and its kind: one of a setup and a table, never both
 abbrev pub source_from : (setup table : Option (List ℕ)) → Option (Source × List ℕ)

@@ -5,10 +5,17 @@ pub mod CheckCommand
 pub mod CommandLine
 pub mod CompareCommand
 pub mod FilePairs
+pub mod Given
+pub mod HelpCommand
+pub mod HelpRun
+pub mod HelpTexts
 pub mod LearnCommand
 pub mod Promises
+pub mod Reasons
 pub mod RecheckCommand
 pub mod Run
 pub mod ServeCommand
+pub mod Syntaxes
 pub mod TrialCommand
+pub mod Untaken
 pub mod World

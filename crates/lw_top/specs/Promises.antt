@@ -50,7 +50,7 @@ use Rattle.lw_learn.specs.Writing.{NothingFailed, PutsAll, StandsInFile}
 use Rattle.lw_recheck.specs.Arguments.{RecheckValues}
 use Rattle.lw_recheck.specs.Reading.{ReadsBoth}
 use Rattle.lw_trial.specs.TrialRun.{IsReachedTrial, IsTriedPlainly, drawn_machine}
-use Rattle.lw_top.specs.Call.{CallValues, Learn, Check, Trial, Serve, Ask, Compare, Recheck}
+use Rattle.lw_top.specs.Call.{CallValues, Learn, Check, Trial, Serve, Ask, Compare, Recheck, Help}
 use Rattle.lw_top.specs.CheckCommand.{CheckValues}
 use Rattle.lw_top.specs.World.{WorldState}
 
@@ -79,6 +79,7 @@ LearnedIsRight (Some (Serve model)) end = end.model ≡ None
 LearnedIsRight (Some (Ask a)) end = end.model ≡ None
 LearnedIsRight (Some (Compare models)) end = end.model ≡ None
 LearnedIsRight (Some (Recheck a)) end = end.model ≡ None
+LearnedIsRight (Some (Help text)) end = end.model ≡ None
 LearnedIsRight None end = end.model ≡ None
 
 -- answers fix a model: the names of letters and outputs are the same, the model is minimal and agrees with the answers,

@@ -1,12 +1,28 @@
 -- The command `recheck` as clap sees it, and what arguments that it takes say.
-use Rattle.std.specs.Prelude.{ℕ, List, [], ◌∷◌, codes, Option, Some, None}
+use Rattle.std.specs.Prelude.{ℕ, List, [], ◌∷◌, codes, Option, Some, None, false}
 use Rattle.clap.specs.Words.{App, Row, first_of}
 use Rattle.lw_recheck.specs.Arguments.{RecheckValues}
-use Rattle.lw_top.specs.CommandLine.{values_taken, app_with, required_argument}
+use Rattle.lw_top.specs.CommandLine.{app_by, values_taken}
+use Rattle.lw_top.specs.Syntaxes.{Required, SyntaxValues, entry}
 
 -- recheck SETUP ANSWERS
+abbrev pub recheck_syntax : SyntaxValues
+recheck_syntax = record {
+  command = codes "recheck";
+  about = codes "asks a program the words of recorded answers again";
+  entries =
+      entry (Required (codes "setup")) (codes "SETUP") (codes "the setup file of the program")
+      ∷ entry (Required (codes "answers")) (codes "ANSWERS") (codes "the file of the answers")
+      ∷ [];
+  texts = codes "SETUP" ∷ codes "ANSWERS" ∷ [];
+  takes_more = false;
+  in_place = [];
+  together = [];
+}
+
+-- as clap sees it
 abbrev pub recheck_app : App
-recheck_app = app_with (codes "recheck") (required_argument (codes "setup") ∷ required_argument (codes "answers") ∷ [])
+recheck_app = app_by recheck_syntax
 
 abbrev pub recheck_from : Option (List ℕ) → Option (List ℕ) → Option RecheckValues
 recheck_from None answers = None

@@ -1,22 +1,35 @@
 -- The command `trial` as clap sees it, and what arguments that it takes say.
-use Rattle.std.specs.Prelude.{ℕ, List, [], ◌∷◌, codes, Option, Some, None, option_and_then}
+use Rattle.std.specs.Prelude.{ℕ, List, [], ◌∷◌, codes, Option, Some, None, option_and_then, false}
 use Rattle.clap.specs.Words.{App, Row, first_of}
 use Rattle.lw_rounds.specs.declared.learner.Kind.{Kind}
 use Rattle.lw_chunks.specs.declared.method.Method.{Method}
 use Rattle.lw_trial.specs.Arguments.{TrialValues}
-use Rattle.lw_top.specs.CommandLine.{kind_named, method_named, number_given, values_taken, app_with, default_option, number_option, required_number}
+use Rattle.lw_top.specs.CommandLine.{app_by, kind_named, method_named, number_given, values_taken}
+use Rattle.lw_top.specs.Syntaxes.{RequiredNumber, SyntaxValues, entry, learner_entry, suite_entry, workers_entry}
 use Rattle.lw_top.specs.declared.ranges.TheConstants.{INPUTS, SEED, STATES, WORKERS}
 
 -- trial --states N --inputs A --seed S [--workers N] [--learner table|ttt] [--suite w|wp|h]
+abbrev pub trial_syntax : SyntaxValues
+trial_syntax = record {
+  command = codes "trial";
+  about = codes "draws a machine by a number, and learns it";
+  entries =
+      entry (RequiredNumber (codes "states") STATES) (codes "N") (codes "how many states the machine has")
+      ∷ entry (RequiredNumber (codes "inputs") INPUTS) (codes "A") (codes "how many inputs it has")
+      ∷ entry (RequiredNumber (codes "seed") SEED) (codes "S") (codes "what its drawing begins with")
+      ∷ workers_entry
+      ∷ learner_entry
+      ∷ suite_entry
+      ∷ [];
+  texts = [];
+  takes_more = false;
+  in_place = [];
+  together = [];
+}
+
+-- as clap sees it
 abbrev pub trial_app : App
-trial_app = app_with (codes "trial")
-    (required_number (codes "states") STATES
-    ∷ required_number (codes "inputs") INPUTS
-    ∷ required_number (codes "seed") SEED
-    ∷ number_option (codes "workers") WORKERS (codes "1")
-    ∷ default_option (codes "learner") (codes "table")
-    ∷ default_option (codes "suite") (codes "w")
-    ∷ [])
+trial_app = app_by trial_syntax
 
 -- the values, where each number is there and in its range, the learner is of a kind, and suites are made by a method
 abbrev pub trial_values_from : Option ℕ → Option ℕ → Option ℕ → Option ℕ → Option Kind → Option Method → Option TrialValues

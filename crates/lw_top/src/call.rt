@@ -8,6 +8,7 @@ use crate::arguments::accept::accept_arguments;
 use crate::arguments::ask::ask_arguments;
 use crate::arguments::check::check_arguments;
 use crate::arguments::compare::compare_arguments;
+use crate::arguments::help::{Topic, help_arguments};
 use crate::arguments::learn::learn_arguments;
 use crate::arguments::recheck::recheck_arguments;
 use crate::arguments::serve::serve_arguments;
@@ -34,6 +35,7 @@ pub(crate) enum Call {
     /// The model files.
     Compare(FilePair),
     Recheck(RecheckArguments),
+    Help(Topic),
 }
 
 /// The command that takes the arguments.
@@ -53,6 +55,7 @@ pub(crate) fn read_call(alloc: Global, arguments: &[String]) -> Result<Call, Arg
         "ask" => Ok(Call::Ask(ask_arguments(alloc, arguments)?)),
         "compare" => Ok(Call::Compare(compare_arguments(alloc, arguments)?)),
         "recheck" => Ok(Call::Recheck(recheck_arguments(alloc, arguments)?)),
+        "help" => Ok(Call::Help(help_arguments(alloc, arguments)?)),
         _ => Err(ArgumentStop::Usage),
     }
 }

@@ -3,12 +3,19 @@
 
 mod arguments;
 mod call;
+mod entries;
 mod file_pair;
+mod given;
+mod help;
 mod matching;
 mod options;
+mod pages;
 mod ranges;
+mod reasons;
 mod refused;
+mod text_reasons;
 mod top;
+mod untaken;
 mod values;
 
 pub use arguments::accept::accept_arguments;

@@ -1,7 +1,8 @@
 //! The arguments of a command as data, and as clap takes them.
-ghost use Rattle.std.specs.Prelude.{◌≡◌, IfOk, false};
+ghost use Rattle.std.specs.Prelude.{◌≡◌, IfOk, false, option_map};
 ghost use Rattle.clap.specs.Words.{app_of, rule_of};
-ghost use Rattle.lw_top.specs.CommandLine.{app_for, rule_for};
+ghost use Rattle.lw_top.specs.CommandLine.{app_for, rule_of_argument};
+ghost use Rattle.lw_top.specs.Syntaxes.{argument_values, option_name};
 
 use crate::ranges::Range;
 use clap::builder::ValueParser;
@@ -13,8 +14,8 @@ use std::alloc::{AllocError, Global};
 pub(crate) enum Argument {
     /// An option that takes a text.
     Text(&'static str),
-    /// An option that takes a text, with a default.
-    TextOr(&'static str, &'static str),
+    /// An option that takes one of some names, with a default.
+    OneOf(&'static str, &'static [&'static str], &'static str),
     /// An option that takes a number, which may be left out.
     Number(&'static str, Range),
     /// An option that takes a number, with a default.
@@ -39,22 +40,57 @@ impl Argument {
             _ => None,
         }
     }
+
+    /// The name of an option.
+    pub(crate) fn option(&self) -> Option<&'static str>
+        ensures { option_map (λ n. n.now) result ≡ option_name (argument_values self.now) }
+    {
+        match *self {
+            Argument::Text(name)
+            | Argument::OneOf(name, _, _)
+            | Argument::Number(name, _)
+            | Argument::NumberOr(name, _, _)
+            | Argument::RequiredNumber(name, _) => Some(name),
+            _ => None,
+        }
+    }
 }
 
-/// A command: its name, and the arguments that it takes, in their order.
+/// An argument, and what people are told of it.
+#[derive(Clone, Copy)]
+pub(crate) struct Entry {
+    pub(crate) argument: Argument,
+    /// What is in its place in the usage.
+    pub(crate) value: &'static str,
+    /// What it is for.
+    pub(crate) about: &'static str,
+}
+
+/// A command: its name, what it does, and the arguments that it takes, in their order.
 pub(crate) struct Syntax {
     pub(crate) command: &'static str,
-    pub(crate) arguments: &'static [Argument],
+    pub(crate) about: &'static str,
+    pub(crate) entries: &'static [Entry],
+    /// What the texts without a name of an option are, each by the word of the usage.
+    pub(crate) texts: &'static [&'static str],
+    /// Whether more texts may follow.
+    pub(crate) takes_more: bool,
+    /// The options of which one may be in place of the first text.
+    pub(crate) in_place: &'static [&'static str],
+    /// The options that are given all or none.
+    pub(crate) together: &'static [&'static str],
 }
 
 /// An argument as clap takes it.
 fn arg_of<'a>(alloc: Global, argument: &Argument) -> Arg<'a>
-    ensures rule { rule_of result ≡ rule_for argument.now }
+    ensures rule { rule_of result ≡ rule_of_argument argument.now }
     ensures local { result.global ≡ false }
 {
     match *argument {
         Argument::Text(name) => Arg::new(alloc, name).long(name),
-        Argument::TextOr(name, default) => Arg::new(alloc, name).long(name).default_value(default),
+        Argument::OneOf(name, _, default) => Arg::new(alloc, name)
+            .long(name)
+            .default_value(default),
         Argument::Number(name, range) => Arg::new(alloc, name)
             .long(name)
             .value_parser(ValueParser::Unsigned(range.low, range.high)),
@@ -77,8 +113,8 @@ pub(crate) fn command_of<'a>(alloc: Global, syntax: &Syntax) -> Result<Command<'
     ensures { IfOk result (λ c. app_of c ≡ app_for syntax.now) }
 {
     let mut command = Command::new(alloc, syntax.command);
-    for argument in syntax.arguments {
-        command = command.arg(arg_of(alloc, argument))?;
+    for entry in syntax.entries {
+        command = command.arg(arg_of(alloc, &entry.argument))?;
     }
     Ok(command)
 }

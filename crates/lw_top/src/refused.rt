@@ -8,6 +8,7 @@ use crate::arguments::learn::learn_syntax;
 use crate::matching::is_command;
 use crate::options::Syntax;
 use crate::ranges::Range;
+use crate::reasons::{is_within, range_text};
 use lw_log::Log;
 use lw_outside::LogFile;
 use lw_report::{Outcome, outcome_text};
@@ -50,24 +51,17 @@ fn value_of<'a>(arguments: &'a [String], option: &str) -> Option<&'a str> {
     None
 }
 
-/// Whether a text is a whole number of the range.
-fn is_within(text: &str, range: Range) -> bool {
-    match text.parse::<u64>() {
-        Ok(number) => range.low <= number && number <= range.high,
-        Err(_) => false,
-    }
-}
-
 /// The line about the value of an option that is out of its range.
 fn range_line(alloc: Global, option: &str, range: Range) -> Result<String, NoMemory> {
-    let Range { low, high } = range;
-    Ok(format!(in alloc; "--{option} is out of range: {low} to {high}\n")?)
+    let mut line = range_text(alloc, option, range)?;
+    line.push_str("\n")?;
+    Ok(line)
 }
 
 /// Puts a line for each value that is out of its range.
 fn log_ranges<L: LogFile>(alloc: Global, syntax: &Syntax, arguments: &[String], log: &mut Log<L>) {
-    for argument in syntax.arguments {
-        let Some((option, range)) = argument.number() else {
+    for entry in syntax.entries {
+        let Some((option, range)) = entry.argument.number() else {
             continue;
         };
         let Some(text) = value_of(arguments, option) else {

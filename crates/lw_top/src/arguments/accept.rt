@@ -1,16 +1,20 @@
 //! The arguments of `accept`.
 ghost use Rattle.std.specs.Prelude.{◌≡◌, Some, None, Err, IfOk};
 ghost use Rattle.clap.specs.Words.{found_of, rows_of};
-ghost use Rattle.lw_top.specs.AcceptCommand.{accept_app, accept_files_in, accept_found, accept_values};
+ghost use Rattle.lw_top.specs.AcceptCommand.{accept_app, accept_files_in, accept_found, accept_syntax, accept_values};
 ghost use Rattle.lw_top.specs.CommandLine.{texts, app_for};
 ghost use Rattle.lw_top.specs.LearnCommand.{file_names};
+ghost use Rattle.lw_top.specs.Syntaxes.{syntax_values};
 ghost use Rattle.lw_top.specs.declared.values.ArgumentStop.{ArgumentStop as Stop};
 
 use crate::ArgumentStop;
 use crate::arguments::learn::values_for;
+use crate::entries::{
+    EXTRA_ENTRY, KEPT, LEARNER, LENGTH_ENTRY, LOG, MAX_STATES, RANDOM_ENTRY, SEED_ENTRY, SETUP,
+    WORDS, WORKERS_ENTRY,
+};
 use crate::matching::read_matches;
-use crate::options::{Argument, Syntax};
-use crate::ranges::{EXTRA, LENGTH, RANDOM, SEED, STATES, WORKERS};
+use crate::options::{Argument, Entry, Syntax};
 use crate::values::text_at;
 use clap::ArgMatches;
 use lw_chunks::Method;
@@ -20,26 +24,40 @@ use std::alloc::{AllocError, Global};
 
 static ACCEPT: Syntax = Syntax {
     command: "accept",
-    arguments: &[
-        Argument::Optional("setup"),
-        Argument::Text("table"),
-        Argument::NumberOr("workers", WORKERS, "1"),
-        Argument::NumberOr("extra", EXTRA, "1"),
-        Argument::TextOr("learner", "table"),
-        Argument::NumberOr("max-states", STATES, "1024"),
-        Argument::Text("model"),
-        Argument::Text("kept"),
-        Argument::Text("words"),
-        Argument::Number("random", RANDOM),
-        Argument::Number("length", LENGTH),
-        Argument::Number("seed", SEED),
-        Argument::Text("log"),
+    about: "learns which words a program accepts, or the acceptor of a file",
+    entries: &[
+        SETUP,
+        Entry {
+            argument: Argument::Text("table"),
+            value: "FILE",
+            about: "the file of an acceptor in place of the setup",
+        },
+        WORKERS_ENTRY,
+        EXTRA_ENTRY,
+        LEARNER,
+        MAX_STATES,
+        Entry {
+            argument: Argument::Text("model"),
+            value: "FILE",
+            about: "where the acceptor is written",
+        },
+        KEPT,
+        WORDS,
+        RANDOM_ENTRY,
+        LENGTH_ENTRY,
+        SEED_ENTRY,
+        LOG,
     ],
+    texts: &["SETUP"],
+    takes_more: false,
+    in_place: &["table"],
+    together: &["random", "length", "seed"],
 };
 
 /// The arguments that `accept` takes.
 pub(crate) fn accept_syntax() -> &'static Syntax
-    ensures { app_for result.now ≡ accept_app }
+    ensures app { app_for result.now ≡ accept_app }
+    ensures values { syntax_values result.now ≡ accept_syntax }
 {
     &ACCEPT
 }

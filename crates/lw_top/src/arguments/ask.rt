@@ -2,12 +2,13 @@
 ghost use Rattle.std.specs.Prelude.{◌≡◌, [], string_bytes, map, Some, None, Err, IfOk, option_map};
 ghost use Rattle.clap.specs.Words.{found_of, rows_of};
 ghost use Rattle.lw_top.specs.CommandLine.{texts, app_for};
-ghost use Rattle.lw_top.specs.AskCommand.{ask_app, ask_values, ask_values_from, ask_found, named_by, named_in};
+ghost use Rattle.lw_top.specs.AskCommand.{ask_app, ask_found, ask_syntax, ask_values, ask_values_from, named_by, named_in};
+ghost use Rattle.lw_top.specs.Syntaxes.{syntax_values};
 ghost use Rattle.lw_top.specs.declared.values.ArgumentStop.{ArgumentStop as Stop};
 
 use crate::ArgumentStop;
 use crate::matching::read_matches;
-use crate::options::{Argument, Syntax};
+use crate::options::{Argument, Entry, Syntax};
 use crate::values::{text_at, texts_at};
 use clap::ArgMatches;
 use lw_ask::AskArguments;
@@ -17,17 +18,39 @@ use std::marker::Model;
 
 static ASK: Syntax = Syntax {
     command: "ask",
-    arguments: &[
-        Argument::Text("table"),
-        Argument::Text("accept"),
-        Argument::Text("acceptor"),
-        Argument::Many("words"),
+    about: "asks a program, a machine or an acceptor words",
+    entries: &[
+        Entry {
+            argument: Argument::Text("table"),
+            value: "FILE",
+            about: "the file of a machine in place of the setup",
+        },
+        Entry {
+            argument: Argument::Text("accept"),
+            value: "SETUP",
+            about: "the setup of a program that is asked as acceptors are",
+        },
+        Entry {
+            argument: Argument::Text("acceptor"),
+            value: "FILE",
+            about: "the file of an acceptor in place of the setup",
+        },
+        Entry {
+            argument: Argument::Many("words"),
+            value: "(SETUP | --table FILE | --accept SETUP | --acceptor FILE) WORD...",
+            about: "the setup, where no option is in its place, and words",
+        },
     ],
+    texts: &["SETUP", "WORD"],
+    takes_more: true,
+    in_place: &["table", "accept", "acceptor"],
+    together: &[],
 };
 
 /// The arguments that `ask` takes.
-fn ask_syntax() -> &'static Syntax
-    ensures { app_for result.now ≡ ask_app }
+pub(crate) fn ask_syntax() -> &'static Syntax
+    ensures app { app_for result.now ≡ ask_app }
+    ensures values { syntax_values result.now ≡ ask_syntax }
 {
     &ASK
 }
@@ -42,7 +65,7 @@ struct NamedSystem {
 
 impl Model for NamedSystem {
     ghost use Rattle.std.specs.Prelude.{string_bytes};
-    ghost use Rattle.lw_top.specs.AskCommand.{NamedSystem as Named};
+    ghost use Rattle.lw_top.specs.AskCommand.{NamedSystem as Named, ask_syntax};
 
     ghost Value = { Named };
 

@@ -2,12 +2,14 @@
 ghost use Rattle.std.specs.Prelude.{◌≡◌, ◌≤◌, Some, None, Err, IfOk, option_map, string_bytes};
 ghost use Rattle.clap.specs.Words.{found_of, rows_of};
 ghost use Rattle.lw_top.specs.CommandLine.{texts, app_for};
-ghost use Rattle.lw_top.specs.CheckCommand.{check_app, check_found, check_read, check_values, checked_files, checked_in};
+ghost use Rattle.lw_top.specs.CheckCommand.{check_app, check_found, check_read, check_syntax, check_values, checked_files, checked_in};
+ghost use Rattle.lw_top.specs.Syntaxes.{syntax_values};
 ghost use Rattle.lw_top.specs.declared.values.ArgumentStop.{ArgumentStop as Stop};
 
 use crate::ArgumentStop;
+use crate::entries::{EXTRA_ENTRY, SUITE};
 use crate::matching::read_matches;
-use crate::options::{Argument, Syntax};
+use crate::options::{Argument, Entry, Syntax};
 use crate::ranges::EXTRA;
 use crate::values::{method_at, number_at, text_at};
 use clap::ArgMatches;
@@ -18,18 +20,36 @@ use std::marker::Model;
 
 static CHECK: Syntax = Syntax {
     command: "check",
-    arguments: &[
-        Argument::Optional("first"),
-        Argument::Optional("second"),
-        Argument::Text("acceptor"),
-        Argument::NumberOr("extra", EXTRA, "1"),
-        Argument::TextOr("suite", "w"),
+    about: "says whether answers fix a model, or why not",
+    entries: &[
+        Entry {
+            argument: Argument::Optional("first"),
+            value: "(MODEL | --acceptor FILE)",
+            about: "the file of the model",
+        },
+        Entry {
+            argument: Argument::Optional("second"),
+            value: "ANSWERS",
+            about: "the file of the answers",
+        },
+        Entry {
+            argument: Argument::Text("acceptor"),
+            value: "FILE",
+            about: "the file of an acceptor in place of the model",
+        },
+        EXTRA_ENTRY,
+        SUITE,
     ],
+    texts: &["MODEL", "ANSWERS"],
+    takes_more: false,
+    in_place: &["acceptor"],
+    together: &[],
 };
 
 /// The arguments that `check` takes.
-fn check_syntax() -> &'static Syntax
-    ensures { app_for result.now ≡ check_app }
+pub(crate) fn check_syntax() -> &'static Syntax
+    ensures app { app_for result.now ≡ check_app }
+    ensures values { syntax_values result.now ≡ check_syntax }
 {
     &CHECK
 }
@@ -44,7 +64,7 @@ struct CheckedFiles {
 
 impl Model for CheckedFiles {
     ghost use Rattle.std.specs.Prelude.{string_bytes};
-    ghost use Rattle.lw_top.specs.CheckCommand.{CheckedFiles as Checked};
+    ghost use Rattle.lw_top.specs.CheckCommand.{CheckedFiles as Checked, check_syntax};
 
     ghost Value = { Checked };
 

@@ -3,12 +3,17 @@ ghost use Rattle.std.specs.Prelude.{◌≡◌, Some, None, Err, IfOk, IfSome, op
 ghost use Rattle.clap.specs.Words.{found_of, rows_of};
 ghost use Rattle.lw_learn.specs.Arguments.{AreFewDrawn};
 ghost use Rattle.lw_top.specs.CommandLine.{texts, app_for};
-ghost use Rattle.lw_top.specs.LearnCommand.{drawn_in, file_names, files_in, learn_app, learn_found, learn_values, learn_values_from, setting_values, settings_by, source_from, source_in};
+ghost use Rattle.lw_top.specs.LearnCommand.{drawn_in, file_names, files_in, learn_app, learn_found, learn_syntax, learn_values, learn_values_from, setting_values, settings_by, source_from, source_in};
+ghost use Rattle.lw_top.specs.Syntaxes.{syntax_values};
 ghost use Rattle.lw_top.specs.declared.values.ArgumentStop.{ArgumentStop as Stop};
 
 use crate::ArgumentStop;
+use crate::entries::{
+    EXTRA_ENTRY, KEPT, LEARNER, LENGTH_ENTRY, LOG, MAX_STATES, MODEL, RANDOM_ENTRY, SEED_ENTRY,
+    SETUP, SUITE, TABLE, WORDS, WORKERS_ENTRY,
+};
 use crate::matching::read_matches;
-use crate::options::{Argument, Syntax};
+use crate::options::{Argument, Entry, Syntax};
 use crate::ranges::{EXTRA, LENGTH, RANDOM, SEED, STATES, WORKERS};
 use crate::values::{kind_at, method_at, number_at, str_at, text_at};
 use clap::ArgMatches;
@@ -20,29 +25,43 @@ use std::alloc::{AllocError, Global};
 
 static LEARN: Syntax = Syntax {
     command: "learn",
-    arguments: &[
-        Argument::Optional("setup"),
-        Argument::Text("table"),
-        Argument::NumberOr("workers", WORKERS, "1"),
-        Argument::NumberOr("extra", EXTRA, "1"),
-        Argument::TextOr("learner", "table"),
-        Argument::NumberOr("max-states", STATES, "1024"),
-        Argument::Text("model"),
-        Argument::Text("answers"),
-        Argument::Text("prior"),
-        Argument::Text("kept"),
-        Argument::Text("words"),
-        Argument::Number("random", RANDOM),
-        Argument::Number("length", LENGTH),
-        Argument::Number("seed", SEED),
-        Argument::Text("log"),
-        Argument::TextOr("suite", "w"),
+    about: "learns a program, or the machine of a file",
+    entries: &[
+        SETUP,
+        TABLE,
+        WORKERS_ENTRY,
+        EXTRA_ENTRY,
+        LEARNER,
+        MAX_STATES,
+        MODEL,
+        Entry {
+            argument: Argument::Text("answers"),
+            value: "FILE",
+            about: "where the recorded answers are written with the model",
+        },
+        Entry {
+            argument: Argument::Text("prior"),
+            value: "FILE",
+            about: "recorded answers of an earlier call, to begin with",
+        },
+        KEPT,
+        WORDS,
+        RANDOM_ENTRY,
+        LENGTH_ENTRY,
+        SEED_ENTRY,
+        LOG,
+        SUITE,
     ],
+    texts: &["SETUP"],
+    takes_more: false,
+    in_place: &["table"],
+    together: &["random", "length", "seed"],
 };
 
 /// The arguments that `learn` takes.
 pub(crate) fn learn_syntax() -> &'static Syntax
-    ensures { app_for result.now ≡ learn_app }
+    ensures app { app_for result.now ≡ learn_app }
+    ensures values { syntax_values result.now ≡ learn_syntax }
 {
     &LEARN
 }

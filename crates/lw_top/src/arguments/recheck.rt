@@ -2,12 +2,13 @@
 ghost use Rattle.std.specs.Prelude.{◌≡◌, Some, None, Err, IfOk};
 ghost use Rattle.clap.specs.Words.{found_of, rows_of};
 ghost use Rattle.lw_top.specs.CommandLine.{texts, app_for};
-ghost use Rattle.lw_top.specs.RecheckCommand.{recheck_app, recheck_values, recheck_found};
+ghost use Rattle.lw_top.specs.RecheckCommand.{recheck_app, recheck_found, recheck_syntax, recheck_values};
+ghost use Rattle.lw_top.specs.Syntaxes.{syntax_values};
 ghost use Rattle.lw_top.specs.declared.values.ArgumentStop.{ArgumentStop as Stop};
 
 use crate::ArgumentStop;
 use crate::matching::read_matches;
-use crate::options::{Argument, Syntax};
+use crate::options::{Argument, Entry, Syntax};
 use crate::values::required_text_at;
 use clap::ArgMatches;
 use lw_recheck::RecheckArguments;
@@ -15,12 +16,29 @@ use std::alloc::Global;
 
 static RECHECK: Syntax = Syntax {
     command: "recheck",
-    arguments: &[Argument::Required("setup"), Argument::Required("answers")],
+    about: "asks a program the words of recorded answers again",
+    entries: &[
+        Entry {
+            argument: Argument::Required("setup"),
+            value: "SETUP",
+            about: "the setup file of the program",
+        },
+        Entry {
+            argument: Argument::Required("answers"),
+            value: "ANSWERS",
+            about: "the file of the answers",
+        },
+    ],
+    texts: &["SETUP", "ANSWERS"],
+    takes_more: false,
+    in_place: &[],
+    together: &[],
 };
 
 /// The arguments that `recheck` takes.
-fn recheck_syntax() -> &'static Syntax
-    ensures { app_for result.now ≡ recheck_app }
+pub(crate) fn recheck_syntax() -> &'static Syntax
+    ensures app { app_for result.now ≡ recheck_app }
+    ensures values { syntax_values result.now ≡ recheck_syntax }
 {
     &RECHECK
 }

@@ -2,12 +2,14 @@
 ghost use Rattle.std.specs.Prelude.{◌≡◌, Some, None, Err, IfOk};
 ghost use Rattle.clap.specs.Words.{found_of, rows_of};
 ghost use Rattle.lw_top.specs.CommandLine.{texts, app_for};
-ghost use Rattle.lw_top.specs.TrialCommand.{trial_app, trial_values, trial_found};
+ghost use Rattle.lw_top.specs.TrialCommand.{trial_app, trial_found, trial_syntax, trial_values};
+ghost use Rattle.lw_top.specs.Syntaxes.{syntax_values};
 ghost use Rattle.lw_top.specs.declared.values.ArgumentStop.{ArgumentStop as Stop};
 
 use crate::ArgumentStop;
+use crate::entries::{LEARNER, SUITE, WORKERS_ENTRY};
 use crate::matching::read_matches;
-use crate::options::{Argument, Syntax};
+use crate::options::{Argument, Entry, Syntax};
 use crate::ranges::{INPUTS, SEED, STATES, WORKERS};
 use crate::values::{kind_at, method_at, number_at};
 use clap::ArgMatches;
@@ -16,19 +18,37 @@ use std::alloc::Global;
 
 static TRIAL: Syntax = Syntax {
     command: "trial",
-    arguments: &[
-        Argument::RequiredNumber("states", STATES),
-        Argument::RequiredNumber("inputs", INPUTS),
-        Argument::RequiredNumber("seed", SEED),
-        Argument::NumberOr("workers", WORKERS, "1"),
-        Argument::TextOr("learner", "table"),
-        Argument::TextOr("suite", "w"),
+    about: "draws a machine by a number, and learns it",
+    entries: &[
+        Entry {
+            argument: Argument::RequiredNumber("states", STATES),
+            value: "N",
+            about: "how many states the machine has",
+        },
+        Entry {
+            argument: Argument::RequiredNumber("inputs", INPUTS),
+            value: "A",
+            about: "how many inputs it has",
+        },
+        Entry {
+            argument: Argument::RequiredNumber("seed", SEED),
+            value: "S",
+            about: "what its drawing begins with",
+        },
+        WORKERS_ENTRY,
+        LEARNER,
+        SUITE,
     ],
+    texts: &[],
+    takes_more: false,
+    in_place: &[],
+    together: &[],
 };
 
 /// The arguments that `trial` takes.
-fn trial_syntax() -> &'static Syntax
-    ensures { app_for result.now ≡ trial_app }
+pub(crate) fn trial_syntax() -> &'static Syntax
+    ensures app { app_for result.now ≡ trial_app }
+    ensures values { syntax_values result.now ≡ trial_syntax }
 {
     &TRIAL
 }

@@ -1,10 +1,11 @@
 use Rattle.std.proofs.Common.{◌≡◌, Some, None, codes, refl, rules, string_bytes}
-use Rattle.lw_top.specs.Call.{Learn, Check, Trial, Serve, Ask, Compare, Recheck}
+use Rattle.lw_top.specs.Call.{Learn, Check, Trial, Serve, Ask, Compare, Recheck, Help}
 use Rattle.lw_top.specs.CommandLine.{texts}
 use Rattle.lw_top.specs.AcceptCommand.{accept_values}
 use Rattle.lw_top.specs.AskCommand.{ask_values}
 use Rattle.lw_top.specs.CheckCommand.{check_read, check_values}
 use Rattle.lw_top.specs.CompareCommand.{compare_values}
+use Rattle.lw_top.specs.HelpCommand.{help_values, topic_text}
 use Rattle.lw_top.specs.LearnCommand.{learn_values}
 use Rattle.lw_top.specs.RecheckCommand.{recheck_values}
 use Rattle.lw_top.specs.ServeCommand.{serve_values}
@@ -100,7 +101,18 @@ returns-in_err-recheck_arguments-in-recheck-clause-refused c usage =
     let none : recheck_values (texts args) ≡ None = search (rules, usage) in
     call_is (codes "recheck") Recheck args c.in-Some.command.now c.as_str.result.now (recheck_values (texts args)) None c.in-Some.ensures.value c.as_str.ensures.value c.in-recheck.is refl none
 
+pub returns-in_ok-help_arguments-in-help-clause-ok : goal.returns-in_ok-help_arguments-in-help-clause-ok
+returns-in_ok-help_arguments-in-help-clause-ok c =
+    let args = c.args.arguments.now in
+    call_is (codes "help") Help args c.in-Some.command.now c.as_str.result.now (help_values (texts args)) (Some (topic_text c.in_ok-help_arguments-in-help.field-0)) c.in-Some.ensures.value c.as_str.ensures.value c.in-help.is refl c.in_ok-help_arguments-in-help.ensures.ok
+
+pub returns-in_err-help_arguments-in-help-clause-refused : goal.returns-in_err-help_arguments-in-help-clause-refused
+returns-in_err-help_arguments-in-help-clause-refused c usage =
+    let args = c.args.arguments.now in
+    let none : help_values (texts args) ≡ None = search (rules, usage) in
+    call_is (codes "help") Help args c.in-Some.command.now c.as_str.result.now (help_values (texts args)) None c.in-Some.ensures.value c.as_str.ensures.value c.in-help.is refl none
+
 pub returns-in_default-as_str-clause-refused : goal.returns-in_default-as_str-clause-refused
 returns-in_default-as_str-clause-refused c _ =
     let other = c.in_default-as_str in
-    no_call c.args.arguments.now c.in-Some.command.now c.as_str.result.now c.in-Some.ensures.value c.as_str.ensures.value other.not-learn other.not-accept other.not-check other.not-trial other.not-serve other.not-ask other.not-compare other.not-recheck
+    no_call c.args.arguments.now c.in-Some.command.now c.as_str.result.now c.in-Some.ensures.value c.as_str.ensures.value other.not-learn other.not-accept other.not-check other.not-trial other.not-serve other.not-ask other.not-compare other.not-recheck other.not-help

@@ -4,12 +4,13 @@ use Rattle.lw_compare.specs.CompareRun.{IsCompareRun}
 use Rattle.lw_serve.specs.ServeRun.{IsServeRun}
 use Rattle.lw_top.specs.Call.{CallValues, call_of, values_of}
 use Rattle.lw_top.specs.CommandLine.{texts}
+use Rattle.lw_top.specs.HelpCommand.{topic_text}
 use Rattle.lw_top.specs.Run.{Runs}
 use Rattle.lw_top.specs.World.{WorldState, seen, states}
 use Rattle.lw_top.specs.declared.call.Call.{Call}
 use Rattle.lw_top.specs.declared.values.ArgumentStop.{ArgumentStop}
-use Rattle.lw_top.specs.declared.values.ArgumentStop.TheVariants as stop
-use Rattle.lw_top.proofs.RunLemmas.{names_learn, names_other, refused, refused_usage}
+use Rattle.lw_top.proofs.HelpLemmas.{helps_never}
+use Rattle.lw_top.proofs.RunLemmas.{names_learn, names_other, refused}
 use Rattle.lw_top.proofs.top.run_call.Goals as goal
 
 pub returns-in-Learn-clause-ran : goal.returns-in-Learn-clause-ran
@@ -28,7 +29,7 @@ returns-in-Learn-clause-ran g c =
     let taken : ¬ (c.learn.result.outcome ≡ Usage) = search rules in
     record {
       status = c.learn.ensures.status;
-      ran = subst (λ (call : Option CallValues). Runs call before now c.learn.result) (sym here) (record { ran = c.learn.ensures.run; input = ap (λ i. I.state i) c.learn.ensures.input });
+      ran = subst (λ (call : Option CallValues). Runs words call before now c.learn.result) (sym here) (record { ran = c.learn.ensures.run; input = ap (λ i. I.state i) c.learn.ensures.input });
       usage = λ usage. absurd (taken usage);
       counts = search rules;
     }
@@ -55,7 +56,7 @@ returns-in-Check-clause-ran g c =
     let taken : ¬ (c.check.result.outcome ≡ Usage) = search rules in
     record {
       status = c.check.ensures.status;
-      ran = subst (λ (call : Option CallValues). Runs call before now c.check.result) (sym here) (record { ran = c.check.ensures.ran; spawner = refl; input = refl; log = refl });
+      ran = subst (λ (call : Option CallValues). Runs words call before now c.check.result) (sym here) (record { ran = c.check.ensures.ran; spawner = refl; input = refl; log = refl });
       usage = λ usage. absurd (taken usage);
       counts = search rules;
     }
@@ -76,7 +77,7 @@ returns-in-Trial-clause-ran g c =
     let taken : ¬ (c.trial.result.outcome ≡ Usage) = search rules in
     record {
       status = c.trial.ensures.status;
-      ran = subst (λ (call : Option CallValues). Runs call before now c.trial.result) (sym here) (record { ran = c.trial.ensures.ran; files = refl; spawner = refl; input = refl; log = refl });
+      ran = subst (λ (call : Option CallValues). Runs words call before now c.trial.result) (sym here) (record { ran = c.trial.ensures.ran; files = refl; spawner = refl; input = refl; log = refl });
       usage = λ usage. absurd (taken usage);
       counts = search rules;
     }
@@ -98,7 +99,7 @@ returns-in-Serve-clause-ran g c =
     let ran : IsServeRun (string_bytes c.in-Serve.model) before.files now.files before.input now.input before.out now.out before.err now.err c.serve.result = subst (λ (m : List ℕ). IsServeRun m before.files now.files before.input now.input before.out now.out before.err now.err c.serve.result) c.as_str.ensures.value c.serve.ensures.ran in
     record {
       status = c.serve.ensures.status;
-      ran = subst (λ (call : Option CallValues). Runs call before now c.serve.result) (sym here) (record { ran = ran; spawner = refl; log = refl });
+      ran = subst (λ (call : Option CallValues). Runs words call before now c.serve.result) (sym here) (record { ran = ran; spawner = refl; log = refl });
       usage = λ usage. absurd (taken usage);
       counts = search rules;
     }
@@ -119,7 +120,7 @@ returns-in-Ask-clause-ran g c =
     let taken : ¬ (c.ask.result.outcome ≡ Usage) = search rules in
     record {
       status = c.ask.ensures.status;
-      ran = subst (λ (call : Option CallValues). Runs call before now c.ask.result) (sym here) (record { ran = c.ask.ensures.ran; cause = c.ask.ensures.why; input = refl; log = refl });
+      ran = subst (λ (call : Option CallValues). Runs words call before now c.ask.result) (sym here) (record { ran = c.ask.ensures.ran; cause = c.ask.ensures.why; input = refl; log = refl });
       usage = λ usage. absurd (taken usage);
       counts = search rules;
     }
@@ -142,7 +143,7 @@ returns-in-Compare-clause-ran g c =
     let ran : IsCompareRun v.first v.second before.files now.files before.out now.out before.err now.err c.compare.result = search rules in
     record {
       status = c.compare.ensures.status;
-      ran = subst (λ (call : Option CallValues). Runs call before now c.compare.result) (sym here) (record { ran = ran; spawner = refl; input = refl; log = refl });
+      ran = subst (λ (call : Option CallValues). Runs words call before now c.compare.result) (sym here) (record { ran = ran; spawner = refl; input = refl; log = refl });
       usage = λ usage. absurd (taken usage);
       counts = search rules;
     }
@@ -163,7 +164,28 @@ returns-in-Recheck-clause-ran g c =
     let taken : ¬ (c.recheck.result.outcome ≡ Usage) = search rules in
     record {
       status = c.recheck.ensures.status;
-      ran = subst (λ (call : Option CallValues). Runs call before now c.recheck.result) (sym here) (record { ran = c.recheck.ensures.ran; cause = c.recheck.ensures.why; input = refl; log = refl });
+      ran = subst (λ (call : Option CallValues). Runs words call before now c.recheck.result) (sym here) (record { ran = c.recheck.ensures.ran; cause = c.recheck.ensures.why; input = refl; log = refl });
+      usage = λ usage. absurd (taken usage);
+      counts = search rules;
+    }
+
+pub returns-in-Help-clause-ran : goal.returns-in-Help-clause-ran
+returns-in-Help-clause-ran g c =
+    let F = g.F.Files in
+    let P = g.P.Spawner in
+    let I = g.I.Source in
+    let O = g.O.Sink in
+    let E = g.E.Sink in
+    let words = texts c.args.arguments.now in
+    let w = c.args.world.now in
+    let before : WorldState = seen F.state P.state I.state O.state E.state (λ l. l.state) w in
+    let now : WorldState = states (F.state w.files) (P.state w.spawner) (I.state w.input) (O.state c.help.new.out) (E.state c.help.new.err) w.log.state in
+    let is : call_of words ≡ Some (values_of c.in-Ok.call) = c.in-Ok.ensures.ok in
+    let here = subst (λ (call : Call). call_of words ≡ Some (values_of call)) c.in-Help.is is in
+    let taken : ¬ (c.help.result.outcome ≡ Usage) = λ u. helps_never (topic_text c.in-Help.topic) before.out now.out before.err now.err c.help.result c.help.ensures.ran _ u (λ k. k) in
+    record {
+      status = c.help.ensures.status;
+      ran = subst (λ (call : Option CallValues). Runs words call before now c.help.result) (sym here) (record { ran = c.help.ensures.ran; files = refl; spawner = refl; input = refl; log = refl });
       usage = λ usage. absurd (taken usage);
       counts = search rules;
     }
@@ -177,12 +199,11 @@ returns-in-Err-clause-ran g c =
     let E = g.E.Sink in
     let words = texts c.args.arguments.now in
     let w = c.args.world.now in
-    let end = c.refuse_arguments.result in
-    let none : c.in-Err.stop ≡ stop.Usage → call_of words ≡ None = λ u. c.in-Err.ensures.refused (ap (λ (s : ArgumentStop). Err s) u) in
+    let none : c.refuse_call.result.outcome ≡ Usage → call_of words ≡ None = λ u. c.in-Err.ensures.refused (ap (λ (s : ArgumentStop). Err s) (c.refuse_call.ensures.usage u)) in
     record {
-      status = c.refuse_arguments.ensures.status;
-      ran = refused (F.state w.files) (P.state w.spawner) (I.state w.input) (O.state w.out) (E.state w.err) (E.state c.refuse_arguments.new.err) w.log.state c.log_refused.new.log.state end c.refuse_arguments.ensures.ended c.in-Err.stop (call_of words) c.refuse_arguments.ensures.outcome none
+      status = c.refuse_call.ensures.status;
+      ran = refused (F.state w.files) (P.state w.spawner) (I.state w.input) (O.state w.out) (E.state w.err) (E.state c.refuse_call.new.err) w.log.state c.log_refused.new.log.state c.refuse_call.result words (call_of words) c.refuse_call.ensures.ended none
           (λ call is other. ap (λ l. l.state) (c.log_refused.ensures (names_other words call is other)));
-      usage = λ usage. none (refused_usage c.in-Err.stop end.outcome c.refuse_arguments.ensures.outcome usage);
+      usage = none;
       counts = search rules;
     }

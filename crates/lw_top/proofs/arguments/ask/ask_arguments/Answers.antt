@@ -8,14 +8,14 @@ use Rattle.lw_top.proofs.arguments.ask.ask_arguments.Goals as goal
 pub returns-clause-ok : goal.returns-clause-ok
 returns-clause-ok c =
     let found = c.in_ok-matches.ensures in
-    say (λ v. v) c.values_of.result (taken_values ask_app ask_found (texts c.args.arguments.now) c.ask_syntax.ensures found.found found.taken) c.values_of.ensures.ok
+    say (λ v. v) c.values_of.result (taken_values ask_app ask_found (texts c.args.arguments.now) c.ask_syntax.ensures.app found.found found.taken) c.values_of.ensures.ok
 
 pub returns-clause-refused : goal.returns-clause-refused
 returns-clause-refused c usage =
     let found = c.in_ok-matches.ensures in
-    taken_values ask_app ask_found (texts c.args.arguments.now) c.ask_syntax.ensures found.found found.taken ∙ c.values_of.ensures.refused usage
+    taken_values ask_app ask_found (texts c.args.arguments.now) c.ask_syntax.ensures.app found.found found.taken ∙ c.values_of.ensures.refused usage
 
 pub returns-in_err-matches-clause-refused : goal.returns-in_err-matches-clause-refused
 returns-in_err-matches-clause-refused c usage =
     let is : c.read_matches.result ≡ Err Usage = search (rules, usage) in
-    untaken_values ask_app ask_found (texts c.args.arguments.now) c.ask_syntax.ensures (c.read_matches.ensures.refused is)
+    untaken_values ask_app ask_found (texts c.args.arguments.now) c.ask_syntax.ensures.app (c.read_matches.ensures.refused is)

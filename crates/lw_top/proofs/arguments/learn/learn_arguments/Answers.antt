@@ -8,14 +8,14 @@ use Rattle.lw_top.proofs.arguments.learn.learn_arguments.Goals as goal
 pub returns-clause-ok : goal.returns-clause-ok
 returns-clause-ok c =
     let found = c.in_ok-matches.ensures in
-    say (λ v. v) c.values_of.result (taken_values learn_app learn_found (texts c.args.arguments.now) c.learn_syntax.ensures found.found found.taken) c.values_of.ensures.ok
+    say (λ v. v) c.values_of.result (taken_values learn_app learn_found (texts c.args.arguments.now) c.learn_syntax.ensures.app found.found found.taken) c.values_of.ensures.ok
 
 pub returns-clause-refused : goal.returns-clause-refused
 returns-clause-refused c usage =
     let found = c.in_ok-matches.ensures in
-    taken_values learn_app learn_found (texts c.args.arguments.now) c.learn_syntax.ensures found.found found.taken ∙ c.values_of.ensures.refused usage
+    taken_values learn_app learn_found (texts c.args.arguments.now) c.learn_syntax.ensures.app found.found found.taken ∙ c.values_of.ensures.refused usage
 
 pub returns-in_err-matches-clause-refused : goal.returns-in_err-matches-clause-refused
 returns-in_err-matches-clause-refused c usage =
     let is : c.read_matches.result ≡ Err Usage = search (rules, usage) in
-    untaken_values learn_app learn_found (texts c.args.arguments.now) c.learn_syntax.ensures (c.read_matches.ensures.refused is)
+    untaken_values learn_app learn_found (texts c.args.arguments.now) c.learn_syntax.ensures.app (c.read_matches.ensures.refused is)

@@ -9,14 +9,14 @@ use Rattle.lw_top.proofs.arguments.serve.serve_arguments.Goals as goal
 pub returns-clause-ok : goal.returns-clause-ok
 returns-clause-ok c =
     let found = c.in_ok-matches.ensures in
-    say (λ s. string_bytes s) c.required_text_at.result (taken_values serve_app (first_of (codes "model")) (texts c.args.arguments.now) c.serve_syntax.ensures found.found found.taken) c.required_text_at.ensures.ok
+    say (λ s. string_bytes s) c.required_text_at.result (taken_values serve_app (first_of (codes "model")) (texts c.args.arguments.now) c.serve_syntax.ensures.app found.found found.taken) c.required_text_at.ensures.ok
 
 pub returns-clause-refused : goal.returns-clause-refused
 returns-clause-refused c usage =
     let found = c.in_ok-matches.ensures in
-    taken_values serve_app (first_of (codes "model")) (texts c.args.arguments.now) c.serve_syntax.ensures found.found found.taken ∙ c.required_text_at.ensures.refused usage
+    taken_values serve_app (first_of (codes "model")) (texts c.args.arguments.now) c.serve_syntax.ensures.app found.found found.taken ∙ c.required_text_at.ensures.refused usage
 
 pub returns-in_err-matches-clause-refused : goal.returns-in_err-matches-clause-refused
 returns-in_err-matches-clause-refused c usage =
     let is : c.read_matches.result ≡ Err Usage = search (rules, usage) in
-    untaken_values serve_app (first_of (codes "model")) (texts c.args.arguments.now) c.serve_syntax.ensures (c.read_matches.ensures.refused is)
+    untaken_values serve_app (first_of (codes "model")) (texts c.args.arguments.now) c.serve_syntax.ensures.app (c.read_matches.ensures.refused is)
