@@ -65,7 +65,8 @@ fn write_in_place<R: Files>(rt: &R, name: &str, bytes: &[u8]) -> io::Result<()> 
 
 /// Puts the bytes, and where it is a file of a disk waits until they stand there.
 fn put_whole<F: OpenFile + Write + Drop>(file: &mut F, bytes: &[u8]) -> io::Result<()>
-    ensures { OnOk result (Appends (F.Write.contents file.old) (F.Write.contents file.new) bytes.now) }
+    ensures { OnOk result
+        (Appends (F.Write.contents file.old) (F.Write.contents file.new) bytes.now) }
 {
     file.write_all(bytes)?;
     match file.metadata() {

@@ -260,8 +260,8 @@ fn range_reason(
 
 /// What is told of an option whose value is none of some names.
 fn choice_text(alloc: Global, name: &str, choices: &[&str]) -> Result<String, AllocError>
-    ensures { IfOk result (λ t. string_bytes t ≡
-        codes "--" ++ (name.now ++ (codes " is none of " ++ listed (map (λ n. n.now) choices.now)))) }
+    ensures { IfOk result (λ t. string_bytes t ≡ codes "--" ++
+        (name.now ++ (codes " is none of " ++ listed (map (λ n. n.now) choices.now)))) }
 {
     let mut text = around(alloc, "--", name, " is none of ")?;
     push_listed(&mut text, choices)?;

@@ -79,7 +79,8 @@ fn files_at(alloc: Global, matches: &ArgMatches) -> Result<LearnFiles, AllocErro
 /// The values that clap found, where the file of the system is named.
 fn values_of(alloc: Global, matches: &ArgMatches) -> Result<LearnArguments, ArgumentStop>
     ensures ok { IfOk result (λ a. accept_found (rows_of (found_of matches.now)) ≡ Some a) }
-    ensures refused { result ≡ Err Stop.Usage → accept_found (rows_of (found_of matches.now)) ≡ None }
+    ensures refused { result ≡ Err Stop.Usage →
+        accept_found (rows_of (found_of matches.now)) ≡ None }
 {
     let files = files_at(alloc, matches)?;
     values_for(alloc, Goal::Acceptor, matches, Some(Method::W), files)

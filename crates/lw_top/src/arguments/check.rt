@@ -109,7 +109,8 @@ fn checked_at(alloc: Global, matches: &ArgMatches) -> Result<Option<CheckedFiles
 fn values_of(alloc: Global, matches: &ArgMatches) -> Result<CheckArguments, ArgumentStop>
     ensures ok { IfOk result (λ a.
         check_found (rows_of (found_of matches.now)) ≡ Some (check_read a)) }
-    ensures refused { result ≡ Err Stop.Usage → check_found (rows_of (found_of matches.now)) ≡ None }
+    ensures refused { result ≡ Err Stop.Usage →
+        check_found (rows_of (found_of matches.now)) ≡ None }
 {
     let Some(files) = checked_at(alloc, matches)? else {
         return Err(ArgumentStop::Usage);

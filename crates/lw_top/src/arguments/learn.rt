@@ -152,7 +152,8 @@ pub(crate) fn values_for(
     suite: Option<Method>,
     files: LearnFiles,
 ) -> Result<LearnArguments, ArgumentStop>
-    ensures ok { IfOk result (λ a. learn_values_from goal (source_in (rows_of (found_of matches.now)))
+    ensures ok { IfOk result (λ a. learn_values_from goal
+        (source_in (rows_of (found_of matches.now)))
         (settings_by suite (rows_of (found_of matches.now)))
         (drawn_in (rows_of (found_of matches.now))) (file_names files) ≡ Some a) }
     ensures refused { result ≡ Err Stop.Usage →
@@ -173,7 +174,8 @@ pub(crate) fn values_for(
 /// The values that clap found, where the file of the system is named.
 fn values_of(alloc: Global, matches: &ArgMatches) -> Result<LearnArguments, ArgumentStop>
     ensures ok { IfOk result (λ a. learn_found (rows_of (found_of matches.now)) ≡ Some a) }
-    ensures refused { result ≡ Err Stop.Usage → learn_found (rows_of (found_of matches.now)) ≡ None }
+    ensures refused { result ≡ Err Stop.Usage →
+        learn_found (rows_of (found_of matches.now)) ≡ None }
 {
     let files = files_at(alloc, matches)?;
     let suite = method_at(matches, "suite");

@@ -46,7 +46,8 @@ pub(crate) fn recheck_syntax() -> &'static Syntax
 /// The values that clap found.
 fn values_of(alloc: Global, matches: &ArgMatches) -> Result<RecheckArguments, ArgumentStop>
     ensures ok { IfOk result (λ v. recheck_found (rows_of (found_of matches.now)) ≡ Some v) }
-    ensures refused { result ≡ Err Stop.Usage → recheck_found (rows_of (found_of matches.now)) ≡ None }
+    ensures refused { result ≡ Err Stop.Usage →
+        recheck_found (rows_of (found_of matches.now)) ≡ None }
 {
     let setup = required_text_at(alloc, matches, "setup")?;
     let answers = required_text_at(alloc, matches, "answers")?;

@@ -56,7 +56,8 @@ pub(crate) fn trial_syntax() -> &'static Syntax
 /// The values that clap found.
 fn values_of(matches: &ArgMatches) -> Result<TrialArguments, ArgumentStop>
     ensures ok { IfOk result (λ a. trial_found (rows_of (found_of matches.now)) ≡ Some a) }
-    ensures refused { result ≡ Err Stop.Usage → trial_found (rows_of (found_of matches.now)) ≡ None }
+    ensures refused { result ≡ Err Stop.Usage →
+        trial_found (rows_of (found_of matches.now)) ≡ None }
 {
     let Some(states) = number_at(matches, "states", STATES) else {
         return Err(ArgumentStop::Usage);
