@@ -72,6 +72,7 @@ use Rattle.lw_compare.specs.Reading as compared
 use Rattle.lw_learn.specs.Arguments.{LearnValues}
 use Rattle.lw_learn.specs.Asking.{IsWordless, IsWordlessTask}
 use Rattle.lw_learn.specs.Ending.{Carries, EndsRead, EndsUnread}
+use Rattle.lw_learn.specs.Probes.{FailsProbe, IsUnwritable, WantsProbe, written_files}
 use Rattle.lw_learn.specs.Findings.{IsOfSystem, LearningStopsBy}
 use Rattle.lw_learn.specs.LearnRun.{IsLearnRun, SaysLog}
 use Rattle.lw_learn.specs.Outcomes.{ModelIsTold, ReportIsTold, told_of}
@@ -929,18 +930,36 @@ module _ (a : LearnValues) (before now : WorldState) (end : End) (ran : IsLearnR
       (λ (wants : (end.outcome ≡ NoMemory) × (now.err ≡ ran.told)). let e : now.err.faults ≡ ran.told.faults = ap (λ (s : SinkState). s.faults) wants.1 in omega (arith, e))
       ran.log
 
+  -- the probe of a file that is to be written failed
+  abbrev Unwrites : Unlearned → Outcome → Type 0
+  Unwrites u x = (r : Role) × (FileFault r ≡ x) × CountedFault before.files.faults u.between.faults
+
+  -- there are no words to ask
+  abbrev Unworded : Unlearned → Outcome → Type 0
+  Unworded u x = (w : IsWordlessTask a before.files u.between u.read end.kept.answers end.outcome) × IsWordless a.words (letters_of w.system) w.between u.between x
+
   -- why no learning began, by an outcome that isn't out of memory
-  unlearned : (u : Unlearned) (x : Outcome) → end.outcome ≡ x → NoMemory ≢ x → IsUnreadBy a before.files u.between u.read end.kept.answers x ⊎ ((w : IsWordlessTask a before.files u.between u.read end.kept.answers end.outcome) × IsWordless a.words (letters_of w.system) w.between u.between x)
+  unlearned : (u : Unlearned) (x : Outcome) → end.outcome ≡ x → NoMemory ≢ x → IsUnreadBy a before.files u.between u.read end.kept.answers x ⊎ (Unworded u x ⊎ Unwrites u x)
   unlearned u x is other =
       ⊎_elim
       (⊎_elim
       (λ (by : IsUnreadBy a before.files u.between u.read end.kept.answers end.outcome). inl (subst (IsUnreadBy a before.files u.between u.read end.kept.answers) is by))
       (λ wants. absurd (other (sym wants.0 ∙ is))))
+      (⊎_elim
       (λ (w : IsWordlessTask a before.files u.between u.read end.kept.answers end.outcome).
       ⊎_elim
-      (λ (e : end.outcome ≡ w.why). inr (w, subst (IsWordless a.words (letters_of w.system) w.between u.between) (sym e ∙ is) w.because))
+      (λ (e : end.outcome ≡ w.why). inr (inl (w, subst (IsWordless a.words (letters_of w.system) w.between u.between) (sym e ∙ is) w.because)))
       (λ (e : end.outcome ≡ NoMemory). absurd (other (sym e ∙ is)))
       w.told)
+      (λ (w : IsUnwritable a before.files u.between u.read end.kept.answers end.outcome).
+      ⊎_elim
+      (λ (e : end.outcome ≡ w.why).
+      ⊎_elim
+      (λ (fails : (r : Role) × (w.why ≡ FileFault r) × FailsProbe (written_files a) w.middle u.between r). inr (inr (fails.0, sym fails.1 ∙ (sym e ∙ is), subst (λ (n : ℕ). CountedFault n u.between.faults) w.quiet fails.2.counted)))
+      (λ (wants : (w.why ≡ NoMemory) × WantsProbe (written_files a) w.middle u.between). absurd (other (sym wants.0 ∙ (sym e ∙ is))))
+      w.because)
+      (λ (e : end.outcome ≡ NoMemory). absurd (other (sym e ∙ is)))
+      w.told))
       u.cause
 
   -- what was learned, by an outcome that is neither out of memory nor that there is no acceptor: a model was told, or the learning
@@ -957,22 +976,22 @@ module _ (a : LearnValues) (before now : WorldState) (end : End) (ran : IsLearnR
       by (Err stop) same carries = inr (stop, same, stands (learn_outcome stop) end.outcome x carries.2 is other)
 
   -- an outcome that comes of none
-  learn_never : (x : Outcome) → end.outcome ≡ x → NoMemory ≢ x → ((q y : ℕ) → NotAcceptor q y ≢ x)
+  learn_never : (x : Outcome) → end.outcome ≡ x → NoMemory ≢ x → ((q y : ℕ) → NotAcceptor q y ≢ x) → ((r : Role) → FileFault r ≢ x)
       → ((u : Unlearned) → ¬ IsUnreadBy a before.files u.between u.read end.kept.answers x) → ((u : Unlearned) (w : IsWordlessTask a before.files u.between u.read end.kept.answers end.outcome) → ¬ IsWordless a.words (letters_of w.system) w.between u.between x)
       → ((l : Found) → ¬ ReportIsTold (told_of a.goal l.model (refinements_of l.learner)) x) → ¬ IsLearnStop x → ⊥
-  learn_never x is other none unread wordless told stop =
+  learn_never x is other none file unread wordless told stop =
       ⊎_elim
-      (λ (u : Unlearned). ⊎_elim (unread u) (λ w. wordless u w.0 w.1) (unlearned u x is other))
+      (λ (u : Unlearned). ⊎_elim (unread u) (⊎_elim (λ (w : Unworded u x). wordless u w.0 w.1) (λ (f : Unwrites u x). absurd (file f.0 f.1))) (unlearned u x is other))
       (λ (r : LearnedSystem). ⊎_elim (λ l. told l.0 l.1) (λ s. stop (subst IsLearnStop s.2 (learn_stop_is s.0))) (learns r x is other none))
       ran.ends
 
   -- the stop of an outcome that comes of a learning alone
-  stopped_by : (X : Type 0) (x : Outcome) → end.outcome ≡ x → NoMemory ≢ x → ((q y : ℕ) → NotAcceptor q y ≢ x)
+  stopped_by : (X : Type 0) (x : Outcome) → end.outcome ≡ x → NoMemory ≢ x → ((q y : ℕ) → NotAcceptor q y ≢ x) → ((r : Role) → FileFault r ≢ x)
       → ((u : Unlearned) → IsUnreadBy a before.files u.between u.read end.kept.answers x → X) → ((u : Unlearned) (w : IsWordlessTask a before.files u.between u.read end.kept.answers end.outcome) → IsWordless a.words (letters_of w.system) w.between u.between x → X)
       → ((l : Found) → ReportIsTold (told_of a.goal l.model (refinements_of l.learner)) x → X) → ((r : LearnedSystem) (stop : LearnStop) → r.learned.learned ≡ Err stop → learn_outcome stop ≡ x → X) → X
-  stopped_by X x is other none unread wordless told stop =
+  stopped_by X x is other none file unread wordless told stop =
       ⊎_elim
-      (λ (u : Unlearned). ⊎_elim (unread u) (λ w. wordless u w.0 w.1) (unlearned u x is other))
+      (λ (u : Unlearned). ⊎_elim (unread u) (⊎_elim (λ (w : Unworded u x). wordless u w.0 w.1) (λ (f : Unwrites u x). absurd (file f.0 f.1))) (unlearned u x is other))
       (λ (r : LearnedSystem). ⊎_elim (λ l. told l.0 l.1) (λ s. stop r s.0 s.1 s.2) (learns r x is other none))
       ran.ends
 
@@ -1001,7 +1020,9 @@ module _ (a : LearnValues) (before now : WorldState) (end : End) (ran : IsLearnR
       (λ (u : Unlearned).
       ⊎_elim
       (λ by. counted_later before.files.faults u.between.faults now.files.faults by.2 (saved_later u))
-      (λ w. counted_later before.files.faults u.between.faults now.files.faults (subst (λ (n : ℕ). CountedFault n u.between.faults) w.0.quiet w.1.1.2) (saved_later u))
+      (⊎_elim
+      (λ (w : Unworded u (FileFault its)). counted_later before.files.faults u.between.faults now.files.faults (subst (λ (n : ℕ). CountedFault n u.between.faults) w.0.quiet w.1.1.2) (saved_later u))
+      (λ (f : Unwrites u (FileFault its)). counted_later before.files.faults u.between.faults now.files.faults f.2 (saved_later u)))
       (unlearned u _ is (λ e. cc)))
       (λ (r : LearnedSystem). ⊎_elim (λ l. wrote_file r its is l.1) (λ s. absurd (subst IsLearnStop s.2 (learn_stop_is s.0))) (learns r _ is (λ e. cc) (λ q y e. cc)))
       ran.ends
@@ -1009,23 +1030,23 @@ module _ (a : LearnValues) (before now : WorldState) (end : End) (ran : IsLearnR
   learn_sink : end.outcome ≡ SinkFault → CountedFault before.out.faults now.out.faults ⊎ CountedFault before.err.faults now.err.faults
   learn_sink is =
       ⊎_elim
-      (λ (u : Unlearned). absurd (⊎_elim (λ by. by) (λ w. w.1) (unlearned u _ is (λ e. cc))))
+      (λ (u : Unlearned). absurd (⊎_elim (λ by. by) (⊎_elim (λ (w : Unworded u SinkFault). w.1) (λ (f : Unwrites u SinkFault). let e : FileFault f.0 ≡ SinkFault = f.1 in cc)) (unlearned u _ is (λ e. cc))))
       (λ (r : LearnedSystem). ⊎_elim inl (λ counted. inr (counted_later before.err.faults ran.told.faults now.err.faults counted said_since)) (r.learned.told.told.sink_fault is))
       ran.ends
 
   learn_clash : (clash : Clash) → end.outcome ≡ Nondeterministic clash → IsFirstClash (answers_of end.kept.answers) clash
   learn_clash clash is =
-      stopped_by (IsFirstClash (answers_of end.kept.answers) clash) _ is (λ e. cc) (λ q y e. cc) (λ u by. by.3) (λ u w by. absurd by) (λ l by. absurd by)
+      stopped_by (IsFirstClash (answers_of end.kept.answers) clash) _ is (λ e. cc) (λ q y e. cc) (λ r e. cc) (λ u by. by.3) (λ u w by. absurd by) (λ l by. absurd by)
       (λ r stop same e. found_clash a r.system r.prior before.spawner now.spawner r.learned.learned end.kept.answers r.learned.naming.names clash r.learned.found (same ∙ ap (λ (s : LearnStop). Err s) (clash_stop stop clash e)))
 
   learn_crowd : (words : List (List ℕ)) → end.outcome ≡ TooManyStates words → IsTooMany a.max_states (answers_of end.kept.answers) words
   learn_crowd words is =
-      stopped_by (IsTooMany a.max_states (answers_of end.kept.answers) words) _ is (λ e. cc) (λ q y e. cc) (λ u by. absurd by) (λ u w by. absurd by) (λ l by. absurd by)
+      stopped_by (IsTooMany a.max_states (answers_of end.kept.answers) words) _ is (λ e. cc) (λ q y e. cc) (λ r e. cc) (λ u by. absurd by) (λ u w by. absurd by) (λ l by. absurd by)
       (λ r stop same e. subst (λ (l : Result Found LearnStop). IfErr l (LearningStopsBy (length (letters_of r.system)) (count_of (declared_of r.system)) a.extra a.max_states (answers_of end.kept.answers))) (same ∙ ap (λ (s : LearnStop). Err s) (crowd_stop stop words e)) r.learned.stops)
 
   learn_suite : (states number : ℕ) → end.outcome ≡ SuiteTooLarge states number → LargeForSystem a before.files now.files end.kept.answers states number
   learn_suite states number is =
-      stopped_by (LargeForSystem a before.files now.files end.kept.answers states number) _ is (λ e. cc) (λ q y e. cc) (λ u by. absurd by) (λ u w by. absurd by) (λ l by. absurd by)
+      stopped_by (LargeForSystem a before.files now.files end.kept.answers states number) _ is (λ e. cc) (λ q y e. cc) (λ r e. cc) (λ u by. absurd by) (λ u w by. absurd by) (λ l by. absurd by)
       (λ r stop same e.
       record {
         system = r.system;
@@ -1042,18 +1063,18 @@ module _ (a : LearnValues) (before now : WorldState) (end : End) (ran : IsLearnR
       record { system = r.system; says = (r.prior, task_of a before now end ran.told r); within = w.1; links = w.0; retired = w.2; why = w.3 }
 
   learn_stops : (i : ℕ) (s : SulStop) → end.outcome ≡ system_outcome i s → InstanceStopped (Some (Learn a)) before now i s
-  learn_stops i sul.Failed is = stopped_by (InstanceStopped (Some (Learn a)) before now i sul.Failed) _ is (λ e. cc) (λ q y e. cc) (λ u by. absurd by) (λ u w by. absurd by) (λ l by. absurd by) (stopped_so i sul.Failed)
-  learn_stops i (sul.BadLine line) is = stopped_by (InstanceStopped (Some (Learn a)) before now i (sul.BadLine line)) _ is (λ e. cc) (λ q y e. cc) (λ u by. absurd by) (λ u w by. absurd by) (λ l by. absurd by) (stopped_so i (sul.BadLine line))
-  learn_stops i sul.Gone is = stopped_by (InstanceStopped (Some (Learn a)) before now i sul.Gone) _ is (λ e. cc) (λ q y e. cc) (λ u by. absurd by) (λ u w by. absurd by) (λ l by. absurd by) (stopped_so i sul.Gone)
+  learn_stops i sul.Failed is = stopped_by (InstanceStopped (Some (Learn a)) before now i sul.Failed) _ is (λ e. cc) (λ q y e. cc) (λ r e. cc) (λ u by. absurd by) (λ u w by. absurd by) (λ l by. absurd by) (stopped_so i sul.Failed)
+  learn_stops i (sul.BadLine line) is = stopped_by (InstanceStopped (Some (Learn a)) before now i (sul.BadLine line)) _ is (λ e. cc) (λ q y e. cc) (λ r e. cc) (λ u by. absurd by) (λ u w by. absurd by) (λ l by. absurd by) (stopped_so i (sul.BadLine line))
+  learn_stops i sul.Gone is = stopped_by (InstanceStopped (Some (Learn a)) before now i sul.Gone) _ is (λ e. cc) (λ q y e. cc) (λ r e. cc) (λ u by. absurd by) (λ u w by. absurd by) (λ l by. absurd by) (stopped_so i sul.Gone)
 
   learn_causes : CausesAreTold (Some (Learn a)) before now end
   learn_causes = record {
-    usage = λ is. absurd (learn_never _ is (λ e. cc) (λ q y e. cc) (λ u k. k) (λ u w k. k) (λ l k. k) (λ k. k));
+    usage = λ is. absurd (learn_never _ is (λ e. cc) (λ q y e. cc) (λ r e. cc) (λ u k. k) (λ u w k. k) (λ l k. k) (λ k. k));
     faults = record {
       file = learn_file;
-      source = λ is. absurd (learn_never _ is (λ e. cc) (λ q y e. cc) (λ u k. k) (λ u w k. k) (λ l k. k) (λ k. k));
+      source = λ is. absurd (learn_never _ is (λ e. cc) (λ q y e. cc) (λ r e. cc) (λ u k. k) (λ u w k. k) (λ l k. k) (λ k. k));
       sink = learn_sink;
-      start = λ cause is. absurd (learn_never _ is (λ e. cc) (λ q y e. cc) (λ u k. k) (λ u w k. k) (λ l k. k) (λ k. k));
+      start = λ cause is. absurd (learn_never _ is (λ e. cc) (λ q y e. cc) (λ r e. cc) (λ u k. k) (λ u w k. k) (λ l k. k) (λ k. k));
     };
     findings = record {
       clash = learn_clash;

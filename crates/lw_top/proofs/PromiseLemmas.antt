@@ -30,12 +30,14 @@ use Rattle.lw_report.specs.Learnings.{HasModel, learn_outcome}
 use Rattle.lw_report.specs.Outcomes.{StandsOrWants}
 use Rattle.lw_report.specs.declared.«end».End.{End}
 use Rattle.lw_report.specs.declared.outcome.Outcome.{Outcome}
+use Rattle.lw_report.specs.declared.role.Role.{Role}
 use Rattle.lw_report.specs.declared.outcome.Outcome.TheVariants.{Learned, Trial, Yes, Served, No, Usage, BadFile, Alphabets, FileTooLong, Nondeterministic, NoMemory, SulFailed, Gone, BadLine, BadAsk, TooManyStates, SuiteTooLarge, FileFault, SourceFault, SinkFault, Compared, Asked, Rechecked, UnknownLetter, Unstarted, Accepted, BadAcceptor, NotAcceptor}
 use Rattle.lw_check.specs.CheckRun.{IsCheckRun}
 use Rattle.lw_check.specs.Decision.{IsFixed, Pair}
 use Rattle.lw_learn.specs.Arguments.{LearnValues}
 use Rattle.lw_learn.specs.Asking.{IsWordless, IsWordlessTask, ReadsWords, SaysWords}
 use Rattle.lw_learn.specs.Ending.{Carries, EndsRead, EndsUnread, end_outputs}
+use Rattle.lw_learn.specs.Probes.{FailsProbe, IsUnwritable, WantsProbe, written_files}
 use Rattle.lw_names.specs.Naming.{Naming}
 use Rattle.lw_learn.specs.Findings.{IsOfSystem}
 use Rattle.lw_learn.specs.LearnRun.{IsLearnRun, SaysLog}
@@ -169,6 +171,19 @@ wordless a f g now read kept outcome saved w =
       inr (w.system, record { between = w.between.reads; more = kind.1.0; task = w.task; reads = saved ∙ kind.1.1 }),
     )
 
+unwritable : (a : LearnValues) (f g now : FilesState) (read : Option System) (kept : List KeptAnswer) (outcome : Outcome) → IsUnwritable a f g read kept outcome → IsBeforeAsking outcome × KeepsPrior a f now kept
+unwritable a f g now read kept outcome w = (
+  ⊎_elim
+      (λ (is : outcome ≡ w.why).
+      ⊎_elim
+      (λ (fails : (role : Role) × (w.why ≡ FileFault role) × FailsProbe (written_files a) w.middle g role). subst IsBeforeAsking (sym (is ∙ fails.1)) tt)
+      (λ (wants : (w.why ≡ NoMemory) × WantsProbe (written_files a) w.middle g). subst IsBeforeAsking (sym (is ∙ wants.0)) tt)
+      w.because)
+      (λ (is : outcome ≡ NoMemory). subst IsBeforeAsking (sym is) tt)
+      w.told,
+  inl w.nothing,
+)
+
 -- the names that an end hands back are those of the learning
 end_named : (declared : Option (List (List ℕ))) (kept : List KeptAnswer) (naming : Naming) (outputs : Option Naming) → outputs ≡ end_outputs declared kept naming → IfSome outputs (λ n. n.names ≡ naming.names)
 end_named (Some own) kept naming outputs is = subst (λ (o : Option Naming). IfSome o (λ n. n.names ≡ naming.names)) (sym is) refl
@@ -229,7 +244,9 @@ module _ (a : LearnValues) (before now : WorldState) (end : End) (run : IsLearnR
   why u =
       ⊎_elim
       (λ (is : IsUnreadAs a before.files u.between u.read end.kept.answers end.outcome). unread_as a before.files u.between now.files u.read end.kept.answers u.saved.saved.reads end.outcome is)
+      (⊎_elim
       (λ (is : IsWordlessTask a before.files u.between u.read end.kept.answers end.outcome). wordless a before.files u.between now.files u.read end.kept.answers end.outcome u.saved.saved.reads is)
+      (λ (is : IsUnwritable a before.files u.between u.read end.kept.answers end.outcome). unwritable a before.files u.between now.files u.read end.kept.answers end.outcome is))
       u.cause
 
   nothing : Unread → AsksNothing a before now end

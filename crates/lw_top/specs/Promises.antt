@@ -158,7 +158,7 @@ pub record KeepsLearned (a : LearnValues) (before now : WorldState) (end : End) 
   pub asked : SaysWords a (letters_of system) before.files.holds task.between now.files.reads words
   pub plainly : EndsPlainly a (length (letters_of system)) words prior end
 
--- a file was refused, earlier answers clash, or memory ran out
+-- a file was refused or can't be written, earlier answers clash, or memory ran out
 abbrev pub IsBeforeAsking : Outcome → Type 0
 IsBeforeAsking (BadFile role fault) = Unit {0}
 IsBeforeAsking (BadAcceptor fault) = Unit {0}
