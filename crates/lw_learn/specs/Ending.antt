@@ -50,7 +50,7 @@ use Rattle.lw_system.specs.declared.system.System.TheVariants.{Table, Children}
 
 -- no learning began: no child is started, nothing is written but prior answers, where they clash or words that are to be asked
 -- could not be read, which are what is kept, and the outcome's text goes to `err`. Where a file can't be written, which is
--- told once all was read, nothing is
+-- reported once all was read, nothing is
 pub record EndsUnread (a : LearnValues) (files_before files_now : FilesState) (spawner_before spawner_now : SpawnerState) (out_before out_now : SinkState) (err_before err_now : SinkState) (end : End) : Type 0 where
   pub read : Option System
   pub between : FilesState
@@ -180,7 +180,8 @@ pub record EndsRead (a : LearnValues) (files_before files_now : FilesState) (spa
   pub middle : FilesState
   pub task : ReadsTask a files_before.holds files_before.reads between system prior
   pub asked : SaysWords a (letters_of system) files_before.holds between middle.reads words
-  -- each file that will be written was probed behind the reads, before the first child was started, and none failed
+  -- each file that will be written was probed once all was read, and no probe failed; where one fails no child is started, as
+  -- EndsUnread says, so the probes come before the first start
   pub made : MadeReads files_before middle (probes_of (written_files a))
   pub quiet : middle.faults ≡ files_before.faults
   pub same : middle.holds ≡ files_before.holds

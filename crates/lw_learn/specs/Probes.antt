@@ -1,4 +1,4 @@
--- The files that a call of `learn` writes are probed once all is read, before the first child is started.
+-- The files that a call of `learn` writes are probed once all is read; where a probe fails no child is started.
 use Rattle.std.specs.Prelude.{◌≡◌, ◌⊎◌, ℕ, List, [], ◌∷◌, ◌++◌, true, false, Option, Some, None}
 use Rattle.lw_words.specs.Cause.{CountedFault}
 use Rattle.lw_words.specs.declared.kept.KeptAnswer.{KeptAnswer}
@@ -40,7 +40,7 @@ pub record FailsProbe (files : List Written) (before now : FilesState) (role : R
   pub counted : CountedFault before.faults now.faults
   pub calls : now.calls ≡ gained (probes_of passed ++ probe_call name true ∷ []) before.calls
 
--- memory ran out behind some probes, of which none failed
+-- memory ran out after some probes, of which none failed
 pub record WantsProbe (files : List Written) (before now : FilesState) : Type 0 where
   pub passed : List Written
   pub later : List Written
