@@ -34,7 +34,10 @@ def kit():
     if rt is None:
         sys.exit("nofjand: there is no rt on the path: it comes with the kit")
     sys.path.insert(0, os.path.dirname(os.path.realpath(rt)))
-    import rtlib
+    try:
+        import rtlib
+    except ImportError:
+        sys.exit(f"nofjand: {rt} is no kit's")
 
     # What ends the checks with this script is begun by the main thread, and Ctrl-C doesn't wait for the others.
     rtlib.guarded()
@@ -66,11 +69,9 @@ def own_sum(crate):
     return found.digest()
 
 
-def processors():
-    """How many checks go on at once."""
-    with open("/proc/meminfo", encoding="ascii") as it:
-        free = next(int(line.split()[1]) << 10 for line in it if line.startswith("MemAvailable:"))
-    return max(1, min(len(os.sched_getaffinity(0)), free // ROOM))
+def processors(rt):
+    """How many checks go on at once: as many as the kit finds processors and memory for, also within a control group."""
+    return max([1, *(number for number in range(2, rt.cores() + 1) if rt.fits(*[ROOM] * number))])
 
 
 class Build:
@@ -108,7 +109,10 @@ def prove(crate, jobs, own):
     """Proves a crate and builds its library; what was said where that failed. The kit's sums are those of the start, so a library
     of sources that changed since then is dropped: `own` is what they were."""
     with tempfile.TemporaryFile("w+", errors="replace") as crate.out:
-        failed = crate.build_rlib(["--jobs", str(jobs)], anew=False)
+        try:
+            failed = crate.build_rlib(["--jobs", str(jobs)], anew=False)
+        except OSError as error:
+            return f"{error}\n"
         if not failed and own_sum(crate) == own:
             return None
         shutil.rmtree(f"{crate.folder}/out/rlib", ignore_errors=True)
@@ -164,7 +168,7 @@ def main():
     os.chdir(folder)
     crates = [crate for crate in rt.crates_below(folder) if crate.makes_rlib()]
     held = rt.lock(crates)
-    at_once = processors()
+    at_once = processors(rt)
     tell(f"the program is proved and built first: {count(len(crates), 'crate')} below it, {at_once} at once")
     libraries(crates, at_once)
     for lock in held:

@@ -43,7 +43,7 @@ fn target_of<R: Files + AllocGlobal>(rt: &R, link: &str) -> Option<String> {
 /// The name behind links that lead to no file yet, or the name itself.
 pub(crate) fn behind_links<R: Files + AllocGlobal>(rt: &R, name: &str) -> Option<String> {
     let mut name = String::from_str(rt.alloc(), name).ok()?;
-    for _ in 0..LINKS {
+    for _ in 0..=LINKS {
         match target_of(rt, name.as_str()) {
             Some(target) => name = target,
             None => return Some(name),

@@ -111,7 +111,7 @@ fn make_beside<R: Files + AllocGlobal>(
 fn takes_no_file(error: &io::Error) -> bool {
     matches!(
         error.kind(),
-        ErrorKind::PermissionDenied | ErrorKind::InvalidFilename
+        ErrorKind::PermissionDenied | ErrorKind::ReadOnlyFilesystem | ErrorKind::InvalidFilename
     )
 }
 
@@ -156,16 +156,30 @@ fn probe_new<R: Files + AllocGlobal>(rt: &R, name: &str) -> io::Result<()> {
     let Some(name) = behind_links(rt, name) else {
         return Err(io::Error::from(ErrorKind::OutOfMemory));
     };
-    let made = match make_beside(rt, name.as_str())? {
-        Some((beside, _file)) => beside,
-        None => {
-            let _file = OpenOptions::new()
-                .write(true)
-                .create_new(true)
-                .open(rt, name.as_str())?;
-            name
+    match make_beside(rt, name.as_str())? {
+        Some((beside, _file)) => {
+            let _removed = fs::remove_file(rt, beside.as_str());
+            Ok(())
         }
-    };
-    let _removed = fs::remove_file(rt, made.as_str());
-    Ok(())
+        None => probe_in_place(rt, name.as_str()),
+    }
+}
+
+/// Tries whether the file itself could be made. One that is there by now is another call's, and can be written.
+fn probe_in_place<R: Files>(rt: &R, name: &str) -> io::Result<()> {
+    match OpenOptions::new()
+        .write(true)
+        .create_new(true)
+        .open(rt, name)
+    {
+        Ok(_file) => {
+            let _removed = fs::remove_file(rt, name);
+            Ok(())
+        }
+        Err(error) if error.kind() == ErrorKind::AlreadyExists => {
+            let _file = OpenOptions::new().write(true).open(rt, name)?;
+            Ok(())
+        }
+        Err(error) => Err(error),
+    }
 }
