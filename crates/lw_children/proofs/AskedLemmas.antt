@@ -3,7 +3,7 @@ use Rattle.std.proofs.Common.{◌≡◌, ℕ, List, [], ◌∷◌, map, Option, 
 use Rattle.lw_words.specs.Word.{answers_of}
 use Rattle.lw_words.specs.Renumbering.{renumbered_answers}
 use Rattle.lw_words.specs.declared.kept.KeptAnswer.{KeptAnswer}
-use Rattle.lw_chunks.specs.declared.method.Method.{Method}
+use Rattle.lw_rounds.specs.declared.settings.Testing.{Testing}
 use Rattle.lw_rounds.specs.Learned.{IsEnoughFor}
 use Rattle.lw_rounds.specs.declared.learned.Learned.{Learned}
 use Rattle.lw_rounds.specs.declared.stops.LearnStop.{LearnStop}
@@ -32,8 +32,8 @@ pub asked_kept : (words : List (List ℕ)) (r : Result Learned LearnStop) (ks ls
 asked_kept words r ks ls kept asked = subst (λ (l : List KeptAnswer). OnOk r (AnswersWords words l)) (sym kept) asked
 
 -- where a learning stopped there is no model that answers are enough for
-pub enough_never : (method : Method) (a k : ℕ) (r : Result Learned LearnStop) (stop : LearnStop) (ks : List KeptAnswer) → r ≡ Err stop → IfOk r (λ l. IsEnoughFor method a k (answers_of ks) l.model)
-enough_never method a k r stop ks is = subst (λ (r : Result Learned LearnStop). IfOk r (λ l. IsEnoughFor method a k (answers_of ks) l.model)) (sym is) tt
+pub enough_never : (testing : Testing) (a k : ℕ) (r : Result Learned LearnStop) (stop : LearnStop) (ks : List KeptAnswer) → r ≡ Err stop → IfOk r (λ l. IsEnoughFor testing a k (answers_of ks) l.model)
+enough_never testing a k r stop ks is = subst (λ (r : Result Learned LearnStop). IfOk r (λ l. IsEnoughFor testing a k (answers_of ks) l.model)) (sym is) tt
 
 -- nor is anything said of words
 pub asked_never : (words : List (List ℕ)) (r : Result Learned LearnStop) (stop : LearnStop) (ks : List KeptAnswer) → r ≡ Err stop → OnOk r (AnswersWords words ks)

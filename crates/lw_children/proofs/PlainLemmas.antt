@@ -5,7 +5,7 @@ use Rattle.lw_words.specs.Word.{Answer, AreAnswers, answers_of, IsWord}
 use Rattle.lw_words.specs.Renumbering.{renumbered_answers}
 use Rattle.lw_words.specs.declared.kept.KeptAnswer.{KeptAnswer}
 use Rattle.lw_mealy.specs.Machine.{Gives, IsMachine, Rows}
-use Rattle.lw_chunks.specs.declared.method.Method.{Method}
+use Rattle.lw_rounds.specs.declared.settings.Testing.{Testing}
 use Rattle.lw_plain.specs.Rounds.{Task, LearnsPlainly}
 use Rattle.lw_plain.specs.Taken.{AreTakenInTurn}
 use Rattle.lw_rounds.specs.Learner.{refinements_of}
@@ -24,10 +24,10 @@ words_stay : (to : List ℕ) (ks : List KeptAnswer) → map (λ (k : KeptAnswer)
 words_stay to [] = refl
 words_stay to (k ∷ ks) = ap (λ (ws : List (List ℕ)). k.word ∷ ws) (words_stay to ks)
 
-pub plain_sorted : (of_kind : Kind) (suites : Method) (a k most : ℕ) (given : List (List ℕ)) (to : List ℕ) (before now : List (List ℕ)) (prior ks more : List KeptAnswer) (was is : Result Learned LearnStop)
+pub plain_sorted : (of_kind : Kind) (testing : Testing) (a k most : ℕ) (given : List (List ℕ)) (to : List ℕ) (before now : List (List ℕ)) (prior ks more : List KeptAnswer) (was is : Result Learned LearnStop)
     → HasSorted to before now (answers_of ks) (answers_of more) was is → more ≡ renumbered_answers to ks → All (IsWord a) given → AreAnswers a (answers_of ks)
-    → RunsAsPlain of_kind suites a k most given was prior ks → RunsAsPlain of_kind suites a k most given is prior more
-plain_sorted of_kind suites a k most given to before now prior ks more was is sorted same letters are runs is_table by_w none m machine gives =
+    → RunsAsPlain of_kind testing a k most given was prior ks → RunsAsPlain of_kind testing a k most given is prior more
+plain_sorted of_kind testing a k most given to before now prior ks more was is sorted same letters are runs is_table by_w none m machine gives =
     let f = sorted.f in
     let g = sorted.g in
     let r = sorted.renumbering.renames in

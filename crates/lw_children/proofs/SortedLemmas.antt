@@ -18,7 +18,7 @@ use Rattle.lw_desk.specs.Ending.{ComeUp, NamedRun, kept_runs}
 use Rattle.lw_pool.specs.Opening.{MayBegin}
 use Rattle.lw_pool.specs.Pool.{AskedOnce}
 use Rattle.lw_pool.specs.Sharing.{declared_by}
-use Rattle.lw_chunks.specs.declared.method.Method.{Method}
+use Rattle.lw_rounds.specs.declared.settings.Testing.{Testing}
 use Rattle.lw_rounds.specs.Learned.{IsEnoughFor, IsLearned}
 use Rattle.lw_rounds.specs.declared.learned.Learned.{Learned}
 use Rattle.lw_rounds.specs.declared.learner.Kind.{Kind}
@@ -291,7 +291,7 @@ none_sorted = record {
   nothing = λ a are nothing. nothing;
   renamed = refl;
   learned = λ kind a b k most are is. tt;
-  enough = λ method a k are is. tt;
+  enough = λ testing a k are is. tt;
   stopped = λ a b k most are is. tt;
 }
 
@@ -381,10 +381,10 @@ pub without_outputs : (kind : Kind) (words letters : List (List ℕ)) (outputs :
 without_outputs kind words letters outputs workers k most prior before now learned kept names none empty of = subst₂ (λ (o : Option (List (List ℕ))) (ks : List KeptAnswer). IsOfChildren kind words letters o workers k most ks before now learned kept names) none empty of
 
 -- the answers are enough for the model, by the new numbers too
-pub enough_sorted : (method : Method) (kind : Kind) (a b k most : ℕ) (to : List ℕ) (before now : List (List ℕ)) (ks more : List Answer) (was is : Result Learned LearnStop) → HasSorted to before now ks more was is → AreAnswers a ks
-    → IfOk was (λ l. IsLearned kind a b k most ks l.model l.learner) → IfOk was (λ l. IsEnoughFor method a k ks l.model) → IfOk is (λ l. IsEnoughFor method a k more l.model)
-enough_sorted method kind a b k most to before now ks more was is sorted are learned enough = sorted.enough method a k are (both was learned enough)
+pub enough_sorted : (testing : Testing) (kind : Kind) (a b k most : ℕ) (to : List ℕ) (before now : List (List ℕ)) (ks more : List Answer) (was is : Result Learned LearnStop) → HasSorted to before now ks more was is → AreAnswers a ks
+    → IfOk was (λ l. IsLearned kind a b k most ks l.model l.learner) → IfOk was (λ l. IsEnoughFor testing a k ks l.model) → IfOk is (λ l. IsEnoughFor testing a k more l.model)
+enough_sorted testing kind a b k most to before now ks more was is sorted are learned enough = sorted.enough testing a k are (both was learned enough)
   where
-    both : (r : Result Learned LearnStop) → IfOk r (λ l. IsLearned kind a b k most ks l.model l.learner) → IfOk r (λ l. IsEnoughFor method a k ks l.model) → IfOk r (λ l. IsMachine a l.model.rows × IsEnoughFor method a k ks l.model)
+    both : (r : Result Learned LearnStop) → IfOk r (λ l. IsLearned kind a b k most ks l.model l.learner) → IfOk r (λ l. IsEnoughFor testing a k ks l.model) → IfOk r (λ l. IsMachine a l.model.rows × IsEnoughFor testing a k ks l.model)
     both (Ok l) of is_enough = (of.certified.canonical.machine, is_enough)
     both (Err stop) of is_enough = tt

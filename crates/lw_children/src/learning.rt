@@ -108,9 +108,9 @@ fn learn_and_retire<P: Spawner, R: Threads + Wait + Sync + Drop, W: Watcher>(
     requires children { IsChildrenPool P.Link.state (P.state spawner.old) pool }
     ensures asked { OnOk result.learned (AnswersWords words.now result.kept.answers) }
     ensures cut { IfSome result.cut (λ run. IsStopOfInstance run.instance result.learned) }
-    ensures enough { IfOk result.learned (λ l. IsEnoughFor settings.suite pool.inputs
+    ensures enough { IfOk result.learned (λ l. IsEnoughFor settings.testing pool.inputs
         settings.extra (answers_of result.kept.answers) l.model) }
-    ensures plainly { RunsAsPlain settings.kind settings.suite pool.inputs settings.extra
+    ensures plainly { RunsAsPlain settings.kind settings.testing pool.inputs settings.extra
         settings.max_states words.now result.learned pool.kept result.kept.answers }
     ensures ended { HasRetired settings.kind P.Link.state settings.extra settings.max_states
         pool (P.state spawner.old) (P.state spawner.new) result.learned result.kept.answers
@@ -152,9 +152,9 @@ pub(crate) fn learn_over<P: Spawner, R: Threads + Wait + Sync + Drop, W: Watcher
         command.now.outputs settings.workers settings.extra settings.max_states start.cache.kept
         (P.state spawner.old) (P.state spawner.new) result.learned result.kept.answers
         result.names.names }
-    ensures enough { IfOk result.learned (λ l. IsEnoughFor settings.suite
+    ensures enough { IfOk result.learned (λ l. IsEnoughFor settings.testing
         (length command.now.inputs) settings.extra (answers_of result.kept.answers) l.model) }
-    ensures plainly { RunsAsPlain settings.kind settings.suite (length command.now.inputs)
+    ensures plainly { RunsAsPlain settings.kind settings.testing (length command.now.inputs)
         settings.extra settings.max_states start.words result.learned start.cache.kept
         result.kept.answers }
     ensures sharing { declared_by result.names.names result.names.brought ≡

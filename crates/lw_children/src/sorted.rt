@@ -53,9 +53,9 @@ fn learn_free<P: Spawner, R: Threads + Wait + Sync + Drop, W: Watcher>(
     requires named_few { length start.words < 2 ^ 32 }
     ensures asked { OnOk result.learned (AnswersWords start.words result.kept.answers) }
     ensures cut { IfSome result.cut (λ run. IsStopOfInstance run.instance result.learned) }
-    ensures enough { IfOk result.learned (λ l. IsEnoughFor settings.suite
+    ensures enough { IfOk result.learned (λ l. IsEnoughFor settings.testing
         (length command.now.inputs) settings.extra (answers_of result.kept.answers) l.model) }
-    ensures plainly { RunsAsPlain settings.kind settings.suite (length command.now.inputs)
+    ensures plainly { RunsAsPlain settings.kind settings.testing (length command.now.inputs)
         settings.extra settings.max_states start.words result.learned start.cache.kept
         result.kept.answers }
     ensures found { IsOfFree settings.kind command.now.words command.now.inputs
@@ -111,9 +111,9 @@ pub fn learn_children<P: Spawner, R: Threads + Wait + Sync + Drop, W: Watcher>(
     requires named_few { length start.words < 2 ^ 32 }
     ensures asked { OnOk result.learned (AnswersWords start.words result.kept.answers) }
     ensures cut { IfSome result.cut (λ run. IsStopOfInstance run.instance result.learned) }
-    ensures enough { IfOk result.learned (λ l. IsEnoughFor settings.suite
+    ensures enough { IfOk result.learned (λ l. IsEnoughFor settings.testing
         (length command.now.inputs) settings.extra (answers_of result.kept.answers) l.model) }
-    ensures plainly { RunsAsPlain settings.kind settings.suite (length command.now.inputs)
+    ensures plainly { RunsAsPlain settings.kind settings.testing (length command.now.inputs)
         settings.extra settings.max_states start.words result.learned start.cache.kept
         result.kept.answers }
     ensures found { IsOfCommand settings.kind command.now.words command.now.inputs

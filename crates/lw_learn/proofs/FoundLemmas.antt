@@ -10,7 +10,7 @@ use Rattle.lw_json.specs.declared.files.Machine.{Machine}
 use Rattle.lw_outside.specs.Links.{LinkState, SpawnerState}
 use Rattle.lw_pool.specs.Pool.{ArePrior}
 use Rattle.lw_renumber.specs.Sorting.{HasSorted, StillStops}
-use Rattle.lw_chunks.specs.declared.method.Method.{Method}
+use Rattle.lw_rounds.specs.declared.settings.Testing.{Testing}
 use Rattle.lw_rounds.specs.Learned.{IsEnoughFor, IsLearned, StopsAs}
 use Rattle.lw_rounds.specs.declared.learned.Learned.{Learned}
 use Rattle.lw_rounds.specs.declared.learner.Kind.{Kind}
@@ -40,14 +40,14 @@ few_instances n prior since kept is are below few =
     subst (λ (l : List KeptAnswer). All (λ k. k.instance ≤ 16) l) (sym is) (All-append (λ (k : KeptAnswer). k.instance ≤ 16) prior since (λ i d lt. omega (arith, (are i d lt).0)) (λ i d lt. omega (arith, few, below i d lt)))
 
 -- what was learned gives its model to each end that carries it
-gives_by : (kind : Kind) (method : Method) (a b k most : ℕ) (kept : List KeptAnswer) (l : Learned) → AreAnswers a (answers_of kept) → IsLearned kind a b k most (answers_of kept) l.model l.learner → IsEnoughFor method a k (answers_of kept) l.model → GivesModel kind method a b k most kept l
-gives_by kind method a b k most kept l are is enough end same carried counted =
-    has_model kind method a b k most end l.model l.learner (subst (λ (ks : List KeptAnswer). AreAnswers a (answers_of ks)) (sym same) are) (subst (λ (ks : List KeptAnswer). IsLearned kind a b k most (answers_of ks) l.model l.learner) (sym same) is)
-    (subst (λ (ks : List KeptAnswer). IsEnoughFor method a k (answers_of ks) l.model) (sym same) enough) carried counted
+gives_by : (kind : Kind) (testing : Testing) (a b k most : ℕ) (kept : List KeptAnswer) (l : Learned) → AreAnswers a (answers_of kept) → IsLearned kind a b k most (answers_of kept) l.model l.learner → IsEnoughFor testing a k (answers_of kept) l.model → GivesModel kind testing a b k most kept l
+gives_by kind testing a b k most kept l are is enough end same carried counted =
+    has_model kind testing a b k most end l.model l.learner (subst (λ (ks : List KeptAnswer). AreAnswers a (answers_of ks)) (sym same) are) (subst (λ (ks : List KeptAnswer). IsLearned kind a b k most (answers_of ks) l.model l.learner) (sym same) is)
+    (subst (λ (ks : List KeptAnswer). IsEnoughFor testing a k (answers_of ks) l.model) (sym same) enough) carried counted
 
-pub learned_gives : (kind : Kind) (method : Method) (a b k most : ℕ) (kept : List KeptAnswer) (r : Result Learned LearnStop) → AreAnswers a (answers_of kept) → IfOk r (λ l. IsLearned kind a b k most (answers_of kept) l.model l.learner) → IfOk r (λ l. IsEnoughFor method a k (answers_of kept) l.model) → IfOk r (GivesModel kind method a b k most kept)
-learned_gives kind method a b k most kept (Ok l) are is enough = gives_by kind method a b k most kept l are is enough
-learned_gives kind method a b k most kept (Err stop) are is enough = tt
+pub learned_gives : (kind : Kind) (testing : Testing) (a b k most : ℕ) (kept : List KeptAnswer) (r : Result Learned LearnStop) → AreAnswers a (answers_of kept) → IfOk r (λ l. IsLearned kind a b k most (answers_of kept) l.model l.learner) → IfOk r (λ l. IsEnoughFor testing a k (answers_of kept) l.model) → IfOk r (GivesModel kind testing a b k most kept)
+learned_gives kind testing a b k most kept (Ok l) are is enough = gives_by kind testing a b k most kept l are is enough
+learned_gives kind testing a b k most kept (Err stop) are is enough = tt
 
 pub learned_sizes : (kind : Kind) (a b k most : ℕ) (kept : List KeptAnswer) (r : Result Learned LearnStop) → IfOk r (λ l. IsLearned kind a b k most (answers_of kept) l.model l.learner) → IfOk r (λ l. (l.model.inputs ≡ a) × (l.model.outputs ≡ b))
 learned_sizes kind a b k most kept (Ok l) is = (is.certified.inputs, is.certified.outputs)
@@ -62,21 +62,21 @@ pub learned_stops : (a b k most : ℕ) (ks : List Answer) (r : Result Learned Le
 learned_stops a b k most ks (Ok l) are is = tt
 learned_stops a b k most ks (Err stop) are is = stops_as a b k most ks stop are is
 
--- answers that are enough are so under other names for the method and the numbers
-pub enough_for : (method other : Method) (a b k n : ℕ) (kept : List KeptAnswer) (r : Result Learned LearnStop) → method ≡ other → a ≡ b → k ≡ n → IfOk r (λ l. IsEnoughFor method a k (answers_of kept) l.model) → IfOk r (λ l. IsEnoughFor other b n (answers_of kept) l.model)
-enough_for method other a b k n kept r same inputs extra enough =
-    subst (λ (m : Method). IfOk r (λ l. IsEnoughFor m b n (answers_of kept) l.model)) same
-    (subst₂ (λ (x y : ℕ). IfOk r (λ l. IsEnoughFor method x y (answers_of kept) l.model)) inputs extra enough)
+-- answers that are enough are so under other names for the testing and the numbers
+pub enough_for : (testing other : Testing) (a b k n : ℕ) (kept : List KeptAnswer) (r : Result Learned LearnStop) → testing ≡ other → a ≡ b → k ≡ n → IfOk r (λ l. IsEnoughFor testing a k (answers_of kept) l.model) → IfOk r (λ l. IsEnoughFor other b n (answers_of kept) l.model)
+enough_for testing other a b k n kept r same inputs extra enough =
+    subst (λ (m : Testing). IfOk r (λ l. IsEnoughFor m b n (answers_of kept) l.model)) same
+    (subst₂ (λ (x y : ℕ). IfOk r (λ l. IsEnoughFor testing x y (answers_of kept) l.model)) inputs extra enough)
 
 -- of instances of a machine
 module _ (a : LearnValues) (m : Machine) (prior : List KeptAnswer) (learned : Result Learned LearnStop) (kept : List KeptAnswer) (names : List (List ℕ)) (is : IsOfInstances a m prior learned kept names) where
   words_of_table : AreAnswers (length m.inputs) (answers_of kept)
   words_of_table = subst (λ (n : ℕ). AreAnswers n (answers_of kept)) m.named.0 is.keeps.words
 
-  pub table_gives : IfOk learned (λ l. IsEnoughFor a.suite (length m.inputs) a.extra (answers_of kept) l.model) → IfOk learned (GivesModel a.learner a.suite (length m.inputs) (length names) a.extra a.max_states kept)
+  pub table_gives : IfOk learned (λ l. IsEnoughFor a.testing (length m.inputs) a.extra (answers_of kept) l.model) → IfOk learned (GivesModel a.learner a.testing (length m.inputs) (length names) a.extra a.max_states kept)
   table_gives enough =
-      subst (λ (ns : List (List ℕ)). IfOk learned (GivesModel a.learner a.suite (length m.inputs) (length ns) a.extra a.max_states kept)) (sym is.named)
-      (learned_gives a.learner a.suite (length m.inputs) (length m.outputs) a.extra a.max_states kept learned words_of_table is.ok enough)
+      subst (λ (ns : List (List ℕ)). IfOk learned (GivesModel a.learner a.testing (length m.inputs) (length ns) a.extra a.max_states kept)) (sym is.named)
+      (learned_gives a.learner a.testing (length m.inputs) (length m.outputs) a.extra a.max_states kept learned words_of_table is.ok enough)
 
   pub table_sizes : IfOk learned (λ l. (l.model.inputs ≡ length m.inputs) × (l.model.outputs ≡ length names))
   table_sizes =
@@ -94,10 +94,10 @@ module _ (a : LearnValues) (m : Machine) (prior : List KeptAnswer) (learned : Re
 
 -- of children whose outputs were declared
 module _ (kind : Kind) (words letters outputs : List (List ℕ)) (workers k most : ℕ) (prior : List KeptAnswer) (before now : SpawnerState) (learned : Result Learned LearnStop) (kept : List KeptAnswer) (names : List (List ℕ)) (named : names ≡ outputs) (is : IsOfChildren kind words letters (Some outputs) workers k most prior before now learned kept names) where
-  declared_gives : (method : Method) → IfOk learned (λ l. IsEnoughFor method (length letters) k (answers_of kept) l.model) → IfOk learned (GivesModel kind method (length letters) (length names) k most kept)
-  declared_gives method enough =
-      subst (λ (ns : List (List ℕ)). IfOk learned (GivesModel kind method (length letters) (length ns) k most kept)) (sym named)
-      (learned_gives kind method (length letters) (length outputs) k most kept learned is.keeps.words is.ok enough)
+  declared_gives : (testing : Testing) → IfOk learned (λ l. IsEnoughFor testing (length letters) k (answers_of kept) l.model) → IfOk learned (GivesModel kind testing (length letters) (length names) k most kept)
+  declared_gives testing enough =
+      subst (λ (ns : List (List ℕ)). IfOk learned (GivesModel kind testing (length letters) (length ns) k most kept)) (sym named)
+      (learned_gives kind testing (length letters) (length outputs) k most kept learned is.keeps.words is.ok enough)
 
   declared_sizes : IfOk learned (λ l. (l.model.inputs ≡ length letters) × (l.model.outputs ≡ length names))
   declared_sizes =
@@ -106,11 +106,11 @@ module _ (kind : Kind) (words letters outputs : List (List ℕ)) (workers k most
 
 -- of children whose outputs weren't declared
 module _ (kind : Kind) (letters : List (List ℕ)) (k most : ℕ) (kept : List KeptAnswer) (names own_names : List (List ℕ)) (to : List ℕ) (ks : List Answer) (are : AreAnswers (length letters) ks) where
-  free_gives : (method : Method) (own learned : Result Learned LearnStop) → HasSorted to own_names names ks (answers_of kept) own learned → IfOk own (λ l. IsLearned kind (length letters) 4096 k most ks l.model l.learner) → IfOk learned (λ l. IsEnoughFor method (length letters) k (answers_of kept) l.model) → IfOk learned (GivesModel kind method (length letters) (length names) k most kept)
-  free_gives method (Ok l0) (Ok l) same is enough = λ end kept_is carried counted.
-      has_model_sorted kind method (length letters) 4096 k most to own_names names ks (answers_of kept) (Ok l0) (Ok l) l0 l end same refl are is refl enough (ap (λ (x : List KeptAnswer). answers_of x) kept_is) carried counted
-  free_gives method (Err stop) (Ok l) same is enough = let wrong = same.renamed in absurd (cc)
-  free_gives method own (Err stop) same is enough = tt
+  free_gives : (testing : Testing) (own learned : Result Learned LearnStop) → HasSorted to own_names names ks (answers_of kept) own learned → IfOk own (λ l. IsLearned kind (length letters) 4096 k most ks l.model l.learner) → IfOk learned (λ l. IsEnoughFor testing (length letters) k (answers_of kept) l.model) → IfOk learned (GivesModel kind testing (length letters) (length names) k most kept)
+  free_gives testing (Ok l0) (Ok l) same is enough = λ end kept_is carried counted.
+      has_model_sorted kind testing (length letters) 4096 k most to own_names names ks (answers_of kept) (Ok l0) (Ok l) l0 l end same refl are is refl enough (ap (λ (x : List KeptAnswer). answers_of x) kept_is) carried counted
+  free_gives testing (Err stop) (Ok l) same is enough = let wrong = same.renamed in absurd (cc)
+  free_gives testing own (Err stop) same is enough = tt
 
   free_sizes : (own learned : Result Learned LearnStop) → HasSorted to own_names names ks (answers_of kept) own learned → IfOk own (λ l. IsLearned kind (length letters) 4096 k most ks l.model l.learner) → IfOk learned (λ l. (l.model.inputs ≡ length letters) × (l.model.outputs ≡ length names))
   free_sizes (Ok l0) (Ok l) same is =
@@ -134,9 +134,9 @@ keeps_over letters outputs names prior kept links workers keeps are few small =
 
 -- of children by a command
 module _ (kind : Kind) (words letters : List (List ℕ)) (workers k most : ℕ) (prior : List KeptAnswer) (before now : SpawnerState) (learned : Result Learned LearnStop) (kept : List KeptAnswer) (names : List (List ℕ)) where
-  pub command_gives : (method : Method) (outputs : Option (List (List ℕ))) → IsOfCommand kind words letters outputs workers k most prior before now learned kept names → IfOk learned (λ l. IsEnoughFor method (length letters) k (answers_of kept) l.model) → IfOk learned (GivesModel kind method (length letters) (length names) k most kept)
-  command_gives method None is enough = let free = is.1 in free_gives kind letters k most kept names free.own_names free.new_numbers free.own_answers free.answers method free.own learned free.same free.ok enough
-  command_gives method (Some outputs) is enough = declared_gives kind words letters outputs workers k most prior before now learned kept names is.0 is.1 method enough
+  pub command_gives : (testing : Testing) (outputs : Option (List (List ℕ))) → IsOfCommand kind words letters outputs workers k most prior before now learned kept names → IfOk learned (λ l. IsEnoughFor testing (length letters) k (answers_of kept) l.model) → IfOk learned (GivesModel kind testing (length letters) (length names) k most kept)
+  command_gives testing None is enough = let free = is.1 in free_gives kind letters k most kept names free.own_names free.new_numbers free.own_answers free.answers testing free.own learned free.same free.ok enough
+  command_gives testing (Some outputs) is enough = declared_gives kind words letters outputs workers k most prior before now learned kept names is.0 is.1 testing enough
 
   pub command_named : (outputs : Option (List (List ℕ))) → IsOfCommand kind words letters outputs workers k most prior before now learned kept names → IfSome outputs (λ own. names ≡ own)
   command_named None is = tt
@@ -155,10 +155,10 @@ module _ (kind : Kind) (words letters : List (List ℕ)) (workers k most : ℕ) 
   command_over (Some outputs) is are small = keeps_over letters (Some outputs) names prior kept is.1.links workers is.1.keeps are is.1.few small
 
 -- what a learning came to by the machine alone, by the settings of the arguments
-pub plain_for : (kind own : Kind) (suites asked : Method) (a b k extra most states : ℕ) (given : List (List ℕ)) (r : Result Learned LearnStop) (prior kept : List KeptAnswer) → kind ≡ own → suites ≡ asked → a ≡ b → k ≡ extra → most ≡ states → RunsAsPlain kind suites a k most given r prior kept → RunsAsPlain own asked b extra states given r prior kept
-plain_for kind own suites asked a b k extra most states given r prior kept same method letters more few runs =
+pub plain_for : (kind own : Kind) (testing asked : Testing) (a b k extra most states : ℕ) (given : List (List ℕ)) (r : Result Learned LearnStop) (prior kept : List KeptAnswer) → kind ≡ own → testing ≡ asked → a ≡ b → k ≡ extra → most ≡ states → RunsAsPlain kind testing a k most given r prior kept → RunsAsPlain own asked b extra states given r prior kept
+plain_for kind own testing asked a b k extra most states given r prior kept same by letters more few runs =
     subst (λ (x : Kind). RunsAsPlain x asked b extra states given r prior kept) same
-    (subst (λ (x : Method). RunsAsPlain kind x b extra states given r prior kept) method
-    (subst (λ (n : ℕ). RunsAsPlain kind suites n extra states given r prior kept) letters
-    (subst (λ (n : ℕ). RunsAsPlain kind suites a n states given r prior kept) more
-    (subst (λ (n : ℕ). RunsAsPlain kind suites a k n given r prior kept) few runs))))
+    (subst (λ (x : Testing). RunsAsPlain kind x b extra states given r prior kept) by
+    (subst (λ (n : ℕ). RunsAsPlain kind testing n extra states given r prior kept) letters
+    (subst (λ (n : ℕ). RunsAsPlain kind testing a n states given r prior kept) more
+    (subst (λ (n : ℕ). RunsAsPlain kind testing a k n given r prior kept) few runs))))

@@ -12,7 +12,7 @@ use Rattle.lw_names.specs.Naming.{Naming}
 use Rattle.lw_mealy.specs.Machine.{Gives, MealyMachine, Rows}
 use Rattle.lw_rounds.specs.Learner.{refinements_of}
 use Rattle.lw_rounds.specs.declared.learned.Learned.{Learned as Found}
-use Rattle.lw_chunks.specs.declared.method.Method.{Method}
+use Rattle.lw_rounds.specs.declared.settings.Testing.{Testing}
 use Rattle.lw_rounds.specs.declared.learner.Kind.{Kind}
 use Rattle.lw_rounds.specs.declared.learner.Learner.{Learner}
 use Rattle.lw_rounds.specs.declared.stops.LearnStop.{LearnStop}
@@ -316,9 +316,9 @@ module _ (a : LearnValues) (s : System) (prior : List KeptAnswer) (naming : Nami
       (counted_system a s prior b z learned kept naming.names r found uncounted within (subst (λ (ks : List KeptAnswer). Gives r (answers_of ks)) whole.told.kept_is gives))
 
 -- and has the model that was learned
-pub model_end : (goal : Goal) (kind : Kind) (method : Method) (a b k most : ℕ) (learned : Result Found LearnStop) (kept : List KeptAnswer) (end : End) → IfOk learned (GivesModel kind method a b k most kept) → end.kept.answers ≡ kept → Carries goal learned end → IfSome end.model (HasModel kind method a b k most end)
-model_end goal kind method a b k most (Ok l) kept end gives same carries = subst (λ (m : Option MealyMachine). IfSome m (HasModel kind method a b k most end)) (sym carries.0) (gives end same carries.1 carries.2)
-model_end goal kind method a b k most (Err stop) kept end gives same carries = subst (λ (m : Option MealyMachine). IfSome m (HasModel kind method a b k most end)) (sym carries.0) tt
+pub model_end : (goal : Goal) (kind : Kind) (testing : Testing) (a b k most : ℕ) (learned : Result Found LearnStop) (kept : List KeptAnswer) (end : End) → IfOk learned (GivesModel kind testing a b k most kept) → end.kept.answers ≡ kept → Carries goal learned end → IfSome end.model (HasModel kind testing a b k most end)
+model_end goal kind testing a b k most (Ok l) kept end gives same carries = subst (λ (m : Option MealyMachine). IfSome m (HasModel kind testing a b k most end)) (sym carries.0) (gives end same carries.1 carries.2)
+model_end goal kind testing a b k most (Err stop) kept end gives same carries = subst (λ (m : Option MealyMachine). IfSome m (HasModel kind testing a b k most end)) (sym carries.0) tt
 
 -- what writing a model out came to
 pub record HasWritten (a : LearnValues) (text : List ℕ) (told : Outcome) (m : Machine) (learner : Learner) (kept : List KeptAnswer) (was : Saved) (f g : FilesState) (o p : SinkState) (e d : SinkState) (end : End) : Type 0 where
@@ -448,13 +448,13 @@ told_left a s naming l kept was f o e d end few sizes untold wants model learner
     text = has (λ x. text_of [] [] kept a.extra x ≡ text_of (letters_of s) naming.names kept a.extra x) refl (λ q x. refl)
 
 -- what was found of a system, and told
-pub ends_learned : (a : LearnValues) (s : System) (prior : List KeptAnswer) (naming : Naming) (learned : Result Found LearnStop) (kept : List KeptAnswer) (f g : FilesState) (b z : SpawnerState) (o p e d : SinkState) (end : End) → IsOfSystem a s prior b z learned kept naming.names → IfOk learned (GivesModel a.learner a.suite (length (letters_of s)) (length naming.names) a.extra a.max_states kept)
+pub ends_learned : (a : LearnValues) (s : System) (prior : List KeptAnswer) (naming : Naming) (learned : Result Found LearnStop) (kept : List KeptAnswer) (f g : FilesState) (b z : SpawnerState) (o p e d : SinkState) (end : End) → IsOfSystem a s prior b z learned kept naming.names → IfOk learned (GivesModel a.learner a.testing (length (letters_of s)) (length naming.names) a.extra a.max_states kept)
     → IfErr learned (LearningStopsBy (length (letters_of s)) (count_of (declared_of s)) a.extra a.max_states (answers_of kept)) → IsEndOf a s naming learned kept f g o p e d end → EndsLearned a s prior f g b z o p e d end
 ends_learned a s prior naming learned kept f g b z o p e d end found gives stops whole = record {
   naming = naming;
   learned = learned;
   found = subst (λ (ks : List KeptAnswer). IsOfSystem a s prior b z learned ks naming.names) (sym whole.told.kept_is) found;
-  model = model_end a.goal a.learner a.suite (length (letters_of s)) (length naming.names) a.extra a.max_states learned kept end gives whole.told.kept_is whole.told.carries;
+  model = model_end a.goal a.learner a.testing (length (letters_of s)) (length naming.names) a.extra a.max_states learned kept end gives whole.told.kept_is whole.told.carries;
   stops = subst (λ (ks : List KeptAnswer). IfErr learned (LearningStopsBy (length (letters_of s)) (count_of (declared_of s)) a.extra a.max_states (answers_of ks))) (sym whole.told.kept_is) stops;
   reached = reached_end a s prior naming learned kept f g b z o p e d end found whole;
   counted = counted_end a s prior naming learned kept f g b z o p e d end found whole;
@@ -468,7 +468,7 @@ answered_end goal words (Err stop) kept end carries same asked some = absurd (so
 
 -- and what a learning came to by the machine alone is what the end says
 pub plain_end : (goal : Goal) (a : LearnValues) (letters : ℕ) (words : List (List ℕ)) (prior : List KeptAnswer) (learned : Result Found LearnStop) (kept : List KeptAnswer) (end : End) → Carries goal learned end → end.kept.answers ≡ kept
-    → RunsAsPlain a.learner a.suite letters a.extra a.max_states words learned prior kept → EndsPlainly a letters words prior end
+    → RunsAsPlain a.learner a.testing letters a.extra a.max_states words learned prior kept → EndsPlainly a letters words prior end
 plain_end goal a letters words prior (Err stop) kept end carries same runs is_table by_w none m machine gives =
     subst (λ (x : Option MealyMachine). IfSome x (λ model. HasPlainWords (plain_task letters m a.extra a.max_states) words model.rows end.refinements end.kept.answers)) (sym carries.0) tt
 plain_end goal a letters words prior (Ok l) kept end carries same runs is_table by_w none m machine gives =

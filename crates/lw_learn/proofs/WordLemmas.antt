@@ -3,7 +3,7 @@ use Rattle.std.proofs.Common.{◌≡◌, ◌∙◌, ℕ, ◌<◌, ◌^◌, List,
 use Rattle.std.specs.Prelude.{option_map}
 use Rattle.std.specs.List.{All}
 use Rattle.std.proofs.lemmas.List.Elements.{All-append, All-nil}
-use Rattle.lw_wordlist.proofs.DrawLemmas.{drawn_are_words}
+use Rattle.lw_draw.proofs.DrawLemmas.{drawn_are_words}
 use Rattle.lw_words.specs.Cause.{CountedFault}
 use Rattle.lw_words.specs.Word.{IsWord}
 use Rattle.lw_words.specs.declared.kept.KeptAnswer.{KeptAnswer}
@@ -28,7 +28,7 @@ use Rattle.lw_learn.specs.bodies.Stages.{HasNamedWords, HasWorded, IsStage, IsWo
 use Rattle.lw_learn.specs.bodies.Ready.{IsReady}
 use Rattle.lw_learn.specs.bodies.UnreadState.{UnreadState}
 use Rattle.lw_system.specs.declared.system.System.{System}
-use Rattle.lw_learn.specs.declared.arguments.Drawn.{Drawn}
+use Rattle.lw_draw.specs.declared.drawing.Drawn.{Drawn}
 use Rattle.lw_learn.specs.declared.task.Task.{Task}
 use Rattle.lw_system.proofs.ReadsLemmas.{made_call, made_none, made_one, made_then, some_made}
 

@@ -1,13 +1,13 @@
 -- The values of the arguments of `learn`, as contracts see them.
 use Rattle.std.specs.Prelude.{ℕ, ◌≤◌, List, Option, IfSome}
 use Rattle.lw_rounds.specs.declared.learner.Kind.{Kind}
-use Rattle.lw_chunks.specs.declared.method.Method.{Method}
-use Rattle.lw_learn.specs.declared.arguments.Drawn.{Drawn}
+use Rattle.lw_rounds.specs.declared.settings.Testing.{Testing}
+use Rattle.lw_draw.specs.declared.drawing.Drawn.{Drawn}
 use Rattle.lw_system.specs.declared.goal.Goal.{Goal}
 use Rattle.lw_system.specs.declared.source.Source.{Source}
 
 -- what is learned, the kind and the name of the system's file, the number of instances, the extra states, the kind of the
--- learner, the greatest number of states, how suites are made, the file for the model and that for the answers, the file of
+-- learner, the greatest number of states, how models are tested, the file for the model and that for the answers, the file of
 -- prior answers, the file for the answers that are kept at any end, the file of words that are asked first, the words that are
 -- drawn for that, and the file of the log
 pub record LearnValues : Type 0 where
@@ -18,7 +18,7 @@ pub record LearnValues : Type 0 where
   pub extra : ℕ
   pub learner : Kind
   pub max_states : ℕ
-  pub suite : Method
+  pub testing : Testing
   pub model : Option (List ℕ)
   pub answers : Option (List ℕ)
   pub prior : Option (List ℕ)

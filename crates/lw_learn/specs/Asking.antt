@@ -3,7 +3,7 @@ use Rattle.std.specs.Prelude.{◌≡◌, ◌⊎◌, ℕ, List, [], ◌∷◌, �
 use Rattle.std.specs.Str.Lossy.{utf8_lossy}
 use Rattle.lw_words.specs.Cause.{CountedFault}
 use Rattle.lw_words.specs.declared.kept.KeptAnswer.{KeptAnswer}
-use Rattle.lw_wordlist.specs.Drawn.{drawn_words}
+use Rattle.lw_draw.specs.Drawn.{drawn_words}
 use Rattle.lw_wordlist.specs.Lines.{lines_in}
 use Rattle.lw_wordlist.specs.Words.{IsFirstUnknown, words_of_texts}
 use Rattle.lw_outside.specs.Files.{File, HoldsLong, read_call, FilesState, ReadsFile, WasRead}
@@ -14,7 +14,7 @@ use Rattle.lw_learn.specs.Arguments.{LearnValues}
 use Rattle.lw_learn.specs.Tasks.{ReadsTask}
 use Rattle.lw_system.specs.Systems.{letters_of}
 use Rattle.lw_system.specs.Reads.{MadeReads, MadeSomeReads}
-use Rattle.lw_learn.specs.declared.arguments.Drawn.{Drawn}
+use Rattle.lw_draw.specs.declared.drawing.Drawn.{Drawn}
 use Rattle.lw_system.specs.declared.system.System.{System}
 
 -- the bytes of a file say these words over the letters, one a line; bytes that are no UTF-8 are in no name

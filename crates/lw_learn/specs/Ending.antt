@@ -12,9 +12,8 @@ use Rattle.lw_outside.specs.Links.{LinkState, SpawnerState}
 use Rattle.lw_rounds.specs.Learner.{refinements_of}
 use Rattle.lw_rounds.specs.declared.learned.Learned.{Learned as Found}
 use Rattle.lw_rounds.specs.declared.stops.LearnStop.{LearnStop}
-use Rattle.lw_rounds.specs.Plain.{plain_task}
+use Rattle.lw_rounds.specs.Plain.{by_w, plain_task}
 use Rattle.lw_rounds.specs.declared.learner.Kind.TheVariants as kind
-use Rattle.lw_chunks.specs.declared.method.Method.TheVariants as method
 use Rattle.lw_workers.specs.Asking.{AnswersWords}
 use Rattle.lw_workers.specs.Plain.{HasPlainWords}
 use Rattle.lw_workers.specs.Machines.{IsWithin}
@@ -141,7 +140,7 @@ pub record EndsLearned (a : LearnValues) (s : System) (prior : List KeptAnswer) 
   pub learned : Result Found LearnStop
   pub found : IsOfSystem a s prior spawner_before spawner_now learned end.kept.answers naming.names
   -- the model, and what it is worth
-  pub model : IfSome end.model (HasModel a.learner a.suite (length (letters_of s))
+  pub model : IfSome end.model (HasModel a.learner a.testing (length (letters_of s))
       (length naming.names) a.extra a.max_states end)
   pub stops : IfErr learned (LearningStopsBy (length (letters_of s)) (count_of (declared_of s)) a.extra
       a.max_states (answers_of end.kept.answers))
@@ -164,10 +163,10 @@ pub record EndsLearned (a : LearnValues) (s : System) (prior : List KeptAnswer) 
       → IsReachedOutcome a.goal (length r) end.outcome ⊎ IsBadLine a.workers end.outcome
   pub told : IsEndOf a s naming learned end.kept.answers files_before files_now out_before out_now err_before err_now end
 
--- a model of a table that was learned by the W-method with no prior answers is the plain learner's, with as many refinements, for each
+-- a model of a table that was learned by the W-method with no walks and no prior answers is the plain learner's, with as many refinements, for each
 -- machine that gives all that is kept; and the words of what is kept are those taken from its batches in turn
 abbrev pub EndsPlainly : LearnValues → ℕ → List (List ℕ) → List KeptAnswer → End → Type 0
-EndsPlainly a letters words prior end = a.learner ≡ kind.Table → a.suite ≡ method.W → prior ≡ [] → (m : Rows) → IsMachine letters m → Gives m (answers_of end.kept.answers)
+EndsPlainly a letters words prior end = a.learner ≡ kind.Table → a.testing ≡ by_w → prior ≡ [] → (m : Rows) → IsMachine letters m → Gives m (answers_of end.kept.answers)
     → IfSome end.model (λ model. HasPlainWords (plain_task letters m a.extra a.max_states) words model.rows end.refinements end.kept.answers)
 
 -- the files say a system, prior answers and words that are asked first, and the system was learned; where there is a model each

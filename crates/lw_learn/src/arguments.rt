@@ -2,17 +2,10 @@
 ghost use Rattle.std.specs.Prelude.{◌≡◌, ◌≤◌, IfSome, option_map, string_bytes};
 ghost use Rattle.lw_learn.specs.Arguments.{AreFewDrawn};
 
+use lw_draw::Drawn;
 use lw_rounds::Settings;
 use lw_system::{Goal, Source};
 use std::marker::Model;
-
-/// Words that are drawn: how many, how many letters each has, and the seed of the generator.
-#[derive(Clone, Copy, Debug, PartialEq, Eq)]
-pub struct Drawn {
-    pub count: u32,
-    pub length: u32,
-    pub seed: u64,
-}
 
 /// The files that `learn` is given beside the system's, where they are: for the model and for the answers, which are to be written,
 /// of prior answers, for the answers that are kept at any end, of the words that are asked first, and for the log.
@@ -52,7 +45,7 @@ impl Model for LearnArguments {
       extra = a.settings.extra;
       learner = a.settings.kind;
       max_states = a.settings.max_states;
-      suite = a.settings.suite;
+      testing = a.settings.testing;
       model = option_map (λ s. string_bytes s) a.files.model;
       answers = option_map (λ s. string_bytes s) a.files.answers;
       prior = option_map (λ s. string_bytes s) a.files.prior;
@@ -70,7 +63,7 @@ impl Model for LearnArguments {
       extra = a.settings.extra;
       learner = a.settings.kind;
       max_states = a.settings.max_states;
-      suite = a.settings.suite;
+      testing = a.settings.testing;
       model = option_map (λ s. string_bytes s) a.files.model;
       answers = option_map (λ s. string_bytes s) a.files.answers;
       prior = option_map (λ s. string_bytes s) a.files.prior;
@@ -100,7 +93,7 @@ impl LearnArguments {
           extra = settings.extra;
           learner = settings.kind;
           max_states = settings.max_states;
-          suite = settings.suite;
+          testing = settings.testing;
           model = option_map (λ s. string_bytes s) files.model;
           answers = option_map (λ s. string_bytes s) files.answers;
           prior = option_map (λ s. string_bytes s) files.prior;
@@ -147,7 +140,7 @@ impl LearnArguments {
         ensures kind { result.kind ≡ self.now.learner }
         ensures extra { result.extra ≡ self.now.extra }
         ensures states { result.max_states ≡ self.now.max_states }
-        ensures suite { result.suite ≡ self.now.suite }
+        ensures testing { result.testing ≡ self.now.testing }
     {
         self.settings
     }

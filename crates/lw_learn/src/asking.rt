@@ -7,14 +7,14 @@ ghost use Rattle.lw_learn.specs.bodies.Ready.{IsReady};
 ghost use Rattle.lw_learn.specs.bodies.Stages.{HasNamed, HasNamedWords, HasWorded, IsWordedStage, SaysNoWords};
 
 use crate::LearnArguments;
-use crate::arguments::Drawn;
 use crate::reading::{Unread, read_task};
 use crate::task::{Task, WordedTask};
+use lw_draw::{Drawn, draw_words};
 use lw_log::Log;
 use lw_outside::{Files, LogFile};
 use lw_report::{Outcome, Role, read_outcome};
 use lw_system::ReadStop;
-use lw_wordlist::{WordStop, draw_words, read_lines};
+use lw_wordlist::{WordStop, read_lines};
 use lw_words::{Names, NoMemory, Words};
 use std::alloc::Global;
 

@@ -40,10 +40,10 @@ fn learn_table<R: Threads + Wait + Sync + Drop, W: Watcher>(
     requires batch { length start.words < 2 ^ 32 }
     ensures found { IsOfInstances arguments.now machine.now start.cache.kept result.learned
         result.kept.answers result.names.names }
-    ensures enough { IfOk result.learned (λ l. IsEnoughFor arguments.now.suite
+    ensures enough { IfOk result.learned (λ l. IsEnoughFor arguments.now.testing
         (length machine.now.inputs) arguments.now.extra (answers_of result.kept.answers) l.model) }
     ensures asked { OnOk result.learned (AnswersWords start.words result.kept.answers) }
-    ensures plainly { RunsAsPlain arguments.now.learner arguments.now.suite
+    ensures plainly { RunsAsPlain arguments.now.learner arguments.now.testing
         (length machine.now.inputs) arguments.now.extra arguments.now.max_states start.words
         result.learned start.cache.kept result.kept.answers }
     ensures few { arguments.now.workers ≤ 16 }
@@ -77,10 +77,10 @@ fn learn_command<P: Spawner, R: Threads + Wait + Sync + Drop, W: Watcher>(
         command.now.outputs arguments.now.workers arguments.now.extra arguments.now.max_states
         start.cache.kept (P.state spawner.old) (P.state spawner.new) result.learned
         result.kept.answers result.names.names }
-    ensures enough { IfOk result.learned (λ l. IsEnoughFor arguments.now.suite
+    ensures enough { IfOk result.learned (λ l. IsEnoughFor arguments.now.testing
         (length command.now.inputs) arguments.now.extra (answers_of result.kept.answers) l.model) }
     ensures asked { OnOk result.learned (AnswersWords start.words result.kept.answers) }
-    ensures plainly { RunsAsPlain arguments.now.learner arguments.now.suite
+    ensures plainly { RunsAsPlain arguments.now.learner arguments.now.testing
         (length command.now.inputs) arguments.now.extra arguments.now.max_states start.words
         result.learned start.cache.kept result.kept.answers }
     ensures few { arguments.now.workers ≤ 16 }
@@ -105,7 +105,7 @@ pub(crate) fn learn_system<P: Spawner, R: Threads + Wait + Sync + Drop, W: Watch
     ensures found { IsOfSystem arguments.now system.now start.cache.kept (P.state spawner.old)
         (P.state spawner.new) result.learned result.kept.answers result.names.names }
     ensures model { IfOk result.learned
-        (GivesModel arguments.now.learner arguments.now.suite (length (letters_of system.now))
+        (GivesModel arguments.now.learner arguments.now.testing (length (letters_of system.now))
         (length result.names.names) arguments.now.extra arguments.now.max_states
         result.kept.answers) }
     ensures sizes { IfOk result.learned (λ l.
@@ -118,7 +118,7 @@ pub(crate) fn learn_system<P: Spawner, R: Threads + Wait + Sync + Drop, W: Watch
         result.kept.answers }
     ensures named { IfSome (declared_of system.now) (λ own. result.names.names ≡ own) }
     ensures asked { OnOk result.learned (AnswersWords start.words result.kept.answers) }
-    ensures plainly { RunsAsPlain arguments.now.learner arguments.now.suite
+    ensures plainly { RunsAsPlain arguments.now.learner arguments.now.testing
         (length (letters_of system.now)) arguments.now.extra arguments.now.max_states start.words
         result.learned start.cache.kept result.kept.answers }
 {

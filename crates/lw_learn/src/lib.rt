@@ -17,7 +17,7 @@ mod saving;
 mod task;
 mod writing;
 
-pub use arguments::{Drawn, LearnArguments, LearnFiles};
+pub use arguments::{LearnArguments, LearnFiles};
 pub use command::learn;
 pub use laws::{bad_is_refused, told_is_learned};
 pub use saving::Saved;

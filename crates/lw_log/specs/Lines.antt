@@ -5,13 +5,14 @@ use Rattle.std.specs.List.{All, flat_map}
 use Rattle.hex.specs.Hex.{encode_lower}
 use Rattle.lw_words.specs.Word.{word_text}
 use Rattle.lw_rounds.specs.declared.watcher.Phase.{Phase}
-use Rattle.lw_rounds.specs.declared.watcher.Phase.TheVariants.{Words, Table, Suite, Analysis, Settling}
+use Rattle.lw_rounds.specs.declared.watcher.Phase.TheVariants.{Words, Table, Suite, Walks, Analysis, Settling}
 use Rattle.lw_rounds.specs.declared.watcher.Step.{Step}
 
 abbrev pub phase_name : Phase → List ℕ
 phase_name Words = codes "words"
 phase_name Table = codes "table"
 phase_name Suite = codes "suite"
+phase_name Walks = codes "walks"
 phase_name Analysis = codes "analysis"
 phase_name Settling = codes "settling"
 

@@ -15,6 +15,7 @@ fn phase_name(phase: Phase) -> &'static str
         Phase::Words => "words",
         Phase::Table => "table",
         Phase::Suite => "suite",
+        Phase::Walks => "walks",
         Phase::Analysis => "analysis",
         Phase::Settling => "settling",
     }

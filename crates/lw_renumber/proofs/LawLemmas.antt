@@ -7,7 +7,7 @@ use Rattle.lw_renumber.specs.Renaming.{renamed_rows}
 use Rattle.lw_renumber.proofs.ClashLemmas.{never_clash, clash_too, clash_back, clear_stays, known_stays, read_renamed, crowd_stays}
 use Rattle.lw_renumber.proofs.MachineLemmas.{answer_is, states_same, is_machine, gives_too}
 use Rattle.lw_renumber.proofs.SuiteLemmas.{canonical_too, suite_too}
-use Rattle.lw_renumber.proofs.SureLemmas.{gives_back, sure_too, verdict_too}
+use Rattle.lw_renumber.proofs.SureLemmas.{gives_back, sure_too, tested_too}
 
 within_too : (f : ℕ → ℕ) (a c : ℕ) (model : MealyMachine) → model.inputs ≡ a → IsWithinLimits model → (1 ≤ c) × (c ≤ 4096) → AnswersBelow c (renamed_rows f model.rows)
     → IsWithinLimits (mealy_of a c (renamed_rows f model.rows))
@@ -34,7 +34,7 @@ renamed_is_certified f g a b c k ks model r are is small below =
     }
 
 pub renamed_is_enough : RenamedIsEnough
-renamed_is_enough f g method a c k ks model r are machine enough = verdict_too f g method a model.rows ks k r machine are enough
+renamed_is_enough f g testing a c k ks model r are machine enough = tested_too f g testing a a c model ks k r machine are enough
 
 pub renamed_is_least : RenamedIsLeast
 renamed_is_least f g a n ks r are none m machine gives =

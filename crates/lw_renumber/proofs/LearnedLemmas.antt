@@ -9,7 +9,7 @@ use Rattle.lw_words.specs.declared.kept.KeptAnswer.{KeptAnswer}
 use Rattle.lw_cache.specs.Clash.{NothingClashes}
 use Rattle.lw_mealy.specs.Machine.{IsMachine, MealyMachine, mealy_of, IsWithinLimits, AnswersBelow, Rows}
 use Rattle.lw_mealy.specs.Renumbering.{renumbered_cell, renumbered_cells, renumbered_rows}
-use Rattle.lw_chunks.specs.declared.method.Method.{Method}
+use Rattle.lw_rounds.specs.declared.settings.Testing.{Testing}
 use Rattle.lw_rounds.specs.Learned.{IsEnoughFor, IsLearned, StopsAs}
 use Rattle.lw_rounds.proofs.LawLemmas.{model_is_least}
 use Rattle.lw_rounds.specs.declared.learned.Learned.{Learned}
@@ -19,7 +19,7 @@ use Rattle.lw_rounds.specs.declared.stops.LearnStop.TheVariants as learn
 use Rattle.lw_renumber.specs.Renaming.{Renames, renamed_cell, renamed_row, renamed_rows, renamed_answers}
 use Rattle.lw_renumber.specs.Sorting.{IsRenumbering, renumbered_learned, renamed_learned, IsCertifiedLeast, StillStops, HasSorted}
 use Rattle.lw_renumber.proofs.MachineLemmas.{states_same, answers_too}
-use Rattle.lw_renumber.proofs.SureLemmas.{verdict_too}
+use Rattle.lw_renumber.proofs.SureLemmas.{tested_too}
 use Rattle.lw_renumber.proofs.LawLemmas.{renamed_never_clash, renamed_is_certified, renamed_is_least, renamed_is_too_many, renamed_is_too_large}
 
 -- two functions that agree where P holds
@@ -90,10 +90,10 @@ module _ (f g : ℕ → ℕ) (r : Renames f g) (n : ℕ) (within : (y : ℕ) →
   learned_still kind a b k most (Ok l) are below is = settled kind a b k most l are below is
   learned_still kind a b k most (Err stop) are below is = is
 
-  enough_still : (method : Method) (a k : ℕ) (was : Result Learned LearnStop) → AreAnswers a ks → IfOk was (λ l. IsMachine a l.model.rows × IsEnoughFor method a k ks l.model)
-      → IfOk (renamed_learned n f was) (λ l. IsEnoughFor method a k (renamed_answers f ks) l.model)
-  enough_still method a k (Ok l) are is = verdict_too f g method a l.model.rows ks k r is.0 are is.1
-  enough_still method a k (Err stop) are is = is
+  enough_still : (testing : Testing) (a k : ℕ) (was : Result Learned LearnStop) → AreAnswers a ks → IfOk was (λ l. IsMachine a l.model.rows × IsEnoughFor testing a k ks l.model)
+      → IfOk (renamed_learned n f was) (λ l. IsEnoughFor testing a k (renamed_answers f ks) l.model)
+  enough_still testing a k (Ok l) are is = tested_too f g testing a l.model.inputs n l.model ks k r is.0 are is.1
+  enough_still testing a k (Err stop) are is = is
 
   stopped_still : (a b k most : ℕ) (was : Result Learned LearnStop) → AreAnswers a ks → IfErr was (StopsAs a b k most ks)
       → IfErr (renamed_learned n f was) (StillStops a k most f (renamed_answers f ks))
@@ -120,10 +120,10 @@ has_sorted to before now f g ks more was is r few below answers renamed =
           (subst (λ (ls : List Answer). IfOk is (λ l. IsCertifiedLeast a n k ls l.model)) (sym answers)
           (subst (λ (now : Result Learned LearnStop). IfOk now (λ l. IsCertifiedLeast a n k (renamed_answers f ks) l.model)) (sym renamed)
           (learned_still f g r.renames n r.within r.past few ks kind a b k most was are below learned)));
-      enough = λ method a k are enough.
-          subst (λ (ls : List Answer). IfOk is (λ l. IsEnoughFor method a k ls l.model)) (sym answers)
-          (subst (λ (now : Result Learned LearnStop). IfOk now (λ l. IsEnoughFor method a k (renamed_answers f ks) l.model)) (sym renamed)
-          (enough_still f g r.renames n r.within r.past few ks method a k was are enough));
+      enough = λ testing a k are enough.
+          subst (λ (ls : List Answer). IfOk is (λ l. IsEnoughFor testing a k ls l.model)) (sym answers)
+          (subst (λ (now : Result Learned LearnStop). IfOk now (λ l. IsEnoughFor testing a k (renamed_answers f ks) l.model)) (sym renamed)
+          (enough_still f g r.renames n r.within r.past few ks testing a k was are enough));
       stopped = λ a b k most are stops.
           subst (λ (ls : List Answer). IfErr is (StillStops a k most f ls)) (sym answers)
           (subst (λ (now : Result Learned LearnStop). IfErr now (StillStops a k most f (renamed_answers f ks))) (sym renamed)

@@ -1,10 +1,13 @@
 -- Renamed machines: their least words, their separators and their suites are the same.
-use Rattle.std.proofs.Common.{ℕ, ◌<◌, List, [], length, get_or, sym, ◌∙◌, subst, arith}
+use Rattle.std.proofs.Common.{ℕ, ◌<◌, List, [], length, get_or, Option, None, Some, sym, ◌∙◌, subst, arith}
 use Rattle.lw_words.specs.Word.{Answer, AreAnswers, IsWord}
 use Rattle.lw_mealy.specs.Machine.{Rows, IsMachine}
 use Rattle.lw_separate.specs.Canonical.{IsCanonical, IsLeastAccess, IsLeastSeparating, AreLeastAccess}
 use Rattle.lw_separate.specs.Separators.{IsSeparators, IsPair}
 use Rattle.lw_suite.specs.Suite.{IsSuite}
+use Rattle.lw_draw.specs.Walks.{AreWalks}
+use Rattle.lw_draw.specs.declared.drawing.Drawn.{Drawn}
+use Rattle.lw_rounds.specs.Learned.{AreWalked}
 use Rattle.lw_chunks.specs.declared.method.Method.{Method}
 use Rattle.lw_certify.specs.Verdict.{IsSuiteBy, SuiteIsKnown}
 use Rattle.lw_renumber.specs.Renaming.{Renames, renamed_rows, renamed_answers}
@@ -61,6 +64,20 @@ module _ (f g : ℕ → ℕ) (r : Renames f g) (a : ℕ) (m : Rows) (machine : I
     separating = separators_too is.ends is.separating;
     words = is.words;
   }
+
+  -- the walks too, and those that are known stay so
+  pub walks_too : (drawn : Drawn) (words : List (List ℕ)) → AreWalks a m drawn words → AreWalks a (renamed_rows f m) drawn words
+  walks_too drawn words is = record {
+    access = is.access;
+    ends = is.ends;
+    least = access_too f a m is.access is.least;
+    separating = separators_too is.ends is.separating;
+    are = is.are;
+  }
+
+  pub walked_too : (drawn : Option Drawn) (ks : List Answer) → AreAnswers a ks → AreWalked drawn a ks m → AreWalked drawn a (renamed_answers f ks) (renamed_rows f m)
+  walked_too None ks are is = tt
+  walked_too (Some d) ks are is = (is.0, walks_too d is.0 is.1, λ i e lt. (known_stays f g r a ks are (get_or is.0 i e)).1 (is.2 i e lt))
 
   -- a suite that is known stays so, where it is the renamed machine's too
   module _ (method : Method) (too : (k : ℕ) (suite : List (List ℕ)) → IsSuiteBy method a m k suite → IsSuiteBy method a (renamed_rows f m) k suite) where

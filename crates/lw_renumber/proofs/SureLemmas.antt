@@ -1,16 +1,18 @@
 -- What the renamed answers are worth.
 use Rattle.std.proofs.Common.{ℕ, ◌+◌, ◌≤◌, List, length, sym, subst, arith}
 use Rattle.lw_words.specs.Word.{Answer, AreAnswers}
-use Rattle.lw_mealy.specs.Machine.{Rows, IsMachine, Gives, Equal, Sure}
+use Rattle.lw_mealy.specs.Machine.{Rows, IsMachine, Gives, Equal, MealyMachine, mealy_of, Sure}
 use Rattle.lw_certify.specs.Verdict.{AreEnoughBy, IsVerdict}
 use Rattle.lw_certify.specs.declared.verdict.Verdict.TheVariants as verdict
 use Rattle.lw_chunks.specs.Size.{suite_size, greatest_suite}
 use Rattle.lw_chunks.specs.declared.method.Method.{Method}
 use Rattle.lw_chunks.specs.declared.method.Method.TheVariants.{W, Wp, H}
+use Rattle.lw_rounds.specs.Learned.{IsEnoughFor}
+use Rattle.lw_rounds.specs.declared.settings.Testing.{Testing}
 use Rattle.lw_renumber.specs.Renaming.{Renames, renamed_rows, renamed_answers}
 use Rattle.lw_renumber.proofs.MachineLemmas.{turned, answers_back, rows_back, states_same, is_machine, gives_too, answers_too, equal_too, minimal_too}
 use Rattle.lw_renumber.proofs.CoverLemmas.{covers_too}
-use Rattle.lw_renumber.proofs.SuiteLemmas.{known_too, suite_too}
+use Rattle.lw_renumber.proofs.SuiteLemmas.{known_too, suite_too, walked_too}
 use Rattle.lw_renumber.proofs.WpLemmas.{wp_suite_too}
 
 -- a machine that gives the renamed answers gives, renamed back, the answers
@@ -35,7 +37,7 @@ enough_too f g W a h ks k r machine are is = known_too f g r a h machine W (suit
 enough_too f g Wp a h ks k r machine are is = known_too f g r a h machine Wp (wp_suite_too f g r a h machine) ks k are is
 enough_too f g H a h ks k r machine are is = covers_too f g r a h ks machine are k is
 
-pub verdict_too : (f g : ℕ → ℕ) (method : Method) (a : ℕ) (h : Rows) (ks : List Answer) (k : ℕ) → Renames f g → IsMachine a h → AreAnswers a ks
+verdict_too : (f g : ℕ → ℕ) (method : Method) (a : ℕ) (h : Rows) (ks : List Answer) (k : ℕ) → Renames f g → IsMachine a h → AreAnswers a ks
     → IsVerdict method a h ks k verdict.Sure → IsVerdict method a (renamed_rows f h) (renamed_answers f ks) k verdict.Sure
 verdict_too f g method a h ks k r machine are is =
     let n = states_same f h in (
@@ -44,3 +46,11 @@ verdict_too f g method a h ks k r machine are is =
       subst (λ (s : ℕ). suite_size s a k ≤ greatest_suite) (sym n) is.2,
       enough_too f g method a h ks k r machine are is.3,
     )
+
+-- answers that are enough for a model by such tests are so renamed
+pub tested_too : (f g : ℕ → ℕ) (testing : Testing) (a b c : ℕ) (model : MealyMachine) (ks : List Answer) (k : ℕ) → Renames f g → IsMachine a model.rows → AreAnswers a ks
+    → IsEnoughFor testing a k ks model → IsEnoughFor testing a k (renamed_answers f ks) (mealy_of b c (renamed_rows f model.rows))
+tested_too f g testing a b c model ks k r machine are is = record {
+  verdict = verdict_too f g testing.suite a model.rows ks k r machine are is.verdict;
+  walked = walked_too f g r a model.rows machine testing.walks ks are is.walked;
+}

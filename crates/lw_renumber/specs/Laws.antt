@@ -9,7 +9,7 @@ use Rattle.lw_cache.specs.Known.{IsKnown, Reads}
 use Rattle.lw_separate.specs.Canonical.{IsCanonical}
 use Rattle.lw_plain.specs.Rounds.{Task, LearnsPlainly}
 use Rattle.lw_suite.specs.Suite.{IsSuite}
-use Rattle.lw_chunks.specs.declared.method.Method.{Method}
+use Rattle.lw_rounds.specs.declared.settings.Testing.{Testing}
 use Rattle.lw_rounds.specs.Learned.{IsCertified, IsEnoughFor, IsTooMany, IsTooLarge}
 use Rattle.lw_renumber.specs.Renaming.{Renames, renamed_rows, renamed_answer, renamed_answers, OutsBelow}
 
@@ -80,11 +80,11 @@ RenamedIsCertified = (f g : ℕ → ℕ) (a b c k : ℕ) (ks : List Answer) (mod
     → (1 ≤ c) × (c ≤ 4096) → AnswersBelow c (renamed_rows f model.rows)
     → IsCertified a c k (renamed_answers f ks) (mealy_of a c (renamed_rows f model.rows))
 
--- answers that are enough for a model by a method are, renamed, enough for the renamed model
+-- answers that are enough for a model by such tests are, renamed, enough for the renamed model
 abbrev pub RenamedIsEnough : Type 0
-RenamedIsEnough = (f g : ℕ → ℕ) (method : Method) (a c k : ℕ) (ks : List Answer) (model : MealyMachine)
-    → Renames f g → AreAnswers a ks → IsMachine a model.rows → IsEnoughFor method a k ks model
-    → IsEnoughFor method a k (renamed_answers f ks) (mealy_of a c (renamed_rows f model.rows))
+RenamedIsEnough = (f g : ℕ → ℕ) (testing : Testing) (a c k : ℕ) (ks : List Answer) (model : MealyMachine)
+    → Renames f g → AreAnswers a ks → IsMachine a model.rows → IsEnoughFor testing a k ks model
+    → IsEnoughFor testing a k (renamed_answers f ks) (mealy_of a c (renamed_rows f model.rows))
 
 -- where no machine of fewer than n states agrees with the answers, none agrees with the renamed answers
 abbrev pub RenamedIsLeast : Type 0

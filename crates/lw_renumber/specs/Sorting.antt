@@ -5,7 +5,7 @@ use Rattle.lw_words.specs.declared.kept.KeptAnswer.{KeptAnswer}
 use Rattle.lw_cache.specs.Clash.{NothingClashes}
 use Rattle.lw_mealy.specs.Machine.{Gives, MealyMachine, mealy_of, Rows, IsMachine}
 use Rattle.lw_mealy.specs.Renumbering.{renumbered_rows}
-use Rattle.lw_chunks.specs.declared.method.Method.{Method}
+use Rattle.lw_rounds.specs.declared.settings.Testing.{Testing}
 use Rattle.lw_rounds.specs.Learned.{IsCertified, IsEnoughFor, IsLearned, IsTooMany, IsTooLarge, StopsAs}
 use Rattle.lw_rounds.specs.declared.learned.Learned.{Learned}
 use Rattle.lw_rounds.specs.declared.learner.Kind.{Kind}
@@ -71,8 +71,8 @@ pub record HasSorted (to : List ℕ) (before now : List (List ℕ)) (ks more : L
   pub learned : (kind : Kind) (a b k most : ℕ) → AreAnswers a ks
       → IfOk was (λ l. IsLearned kind a b k most ks l.model l.learner)
       → IfOk is (λ l. IsCertifiedLeast a (length now) k more l.model)
-  pub enough : (method : Method) (a k : ℕ) → AreAnswers a ks
-      → IfOk was (λ l. IsMachine a l.model.rows × IsEnoughFor method a k ks l.model)
-      → IfOk is (λ l. IsEnoughFor method a k more l.model)
+  pub enough : (testing : Testing) (a k : ℕ) → AreAnswers a ks
+      → IfOk was (λ l. IsMachine a l.model.rows × IsEnoughFor testing a k ks l.model)
+      → IfOk is (λ l. IsEnoughFor testing a k more l.model)
   pub stopped : (a b k most : ℕ) → AreAnswers a ks → IfErr was (StopsAs a b k most ks)
       → IfErr is (StillStops a k most f more)

@@ -21,7 +21,7 @@ pub fn renamed_is_certified()
     ensures { RenamedIsCertified }
 {}
 
-/// Answers that are enough for a model by a method are, renamed, enough for the renamed model.
+/// Answers that are enough for a model by such tests are, renamed, enough for the renamed model.
 pub fn renamed_is_enough()
     ensures { RenamedIsEnough }
 {}

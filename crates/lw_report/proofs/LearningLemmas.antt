@@ -5,7 +5,7 @@ use Rattle.lw_words.specs.Word.{Answer, AreAnswers, answers_of}
 use Rattle.lw_mealy.specs.Machine.{Gives, MealyMachine, mealy_of, Row, Rows}
 use Rattle.lw_cache.specs.declared.stops.AskStop.{AskStop}
 use Rattle.lw_cache.specs.declared.stops.AskStop.TheVariants as ask
-use Rattle.lw_chunks.specs.declared.method.Method.{Method}
+use Rattle.lw_rounds.specs.declared.settings.Testing.{Testing}
 use Rattle.lw_rounds.specs.Learned.{IsCertified, IsEnoughFor, IsLearned, IsReadOff, IsTooLarge}
 use Rattle.lw_rounds.specs.Learner.{refinements_of}
 use Rattle.lw_rounds.specs.Stops.{IsOwnStop}
@@ -52,8 +52,8 @@ read_off_as kind a b most ks rows t is = record {
   read_off = is;
 }
 
-pub has_model : (kind : Kind) (method : Method) (a b k most : ℕ) (end : End) (h : MealyMachine) (t : Learner) → AreAnswers a (answers_of end.kept.answers) → IsLearned kind a b k most (answers_of end.kept.answers) h t → IsEnoughFor method a k (answers_of end.kept.answers) h → end.learner ≡ Some t → end.refinements ≡ refinements_of t → HasModel kind method a b k most end h
-has_model kind method a b k most end h t are is enough carried counted = record {
+pub has_model : (kind : Kind) (testing : Testing) (a b k most : ℕ) (end : End) (h : MealyMachine) (t : Learner) → AreAnswers a (answers_of end.kept.answers) → IsLearned kind a b k most (answers_of end.kept.answers) h t → IsEnoughFor testing a k (answers_of end.kept.answers) h → end.learner ≡ Some t → end.refinements ≡ refinements_of t → HasModel kind testing a b k most end h
+has_model kind testing a b k most end h t are is enough carried counted = record {
   certified = is.certified;
   enough = enough;
   canonical = λ m machine few gives. model_is_canonical a b k (answers_of end.kept.answers) h is.certified m machine few gives;
@@ -101,14 +101,14 @@ module _ (to : List ℕ) (before now : List (List ℕ)) (ks more : List Answer) 
       subst (λ (r : Result Learned LearnStop). IfOk r (λ x. IsCertifiedLeast a (length now) k more x.model)) is_is
       (sorted.learned kind a b k most are (subst (λ (r : Result Learned LearnStop). IfOk r (λ x. IsLearned kind a b k most ks x.model x.learner)) (sym was_is) learned))
 
-pub has_model_sorted : (kind : Kind) (method : Method) (a b k most : ℕ) (to : List ℕ) (before now : List (List ℕ)) (ks more : List Answer) (was is : Result Learned LearnStop) (l0 l : Learned) (end : End) → HasSorted to before now ks more was is → was ≡ Ok l0 → AreAnswers a ks → IsLearned kind a b k most ks l0.model l0.learner → is ≡ Ok l → IsEnoughFor method a k more l.model
-    → answers_of end.kept.answers ≡ more → end.learner ≡ Some l.learner → end.refinements ≡ refinements_of l.learner → HasModel kind method a (length now) k most end l.model
-has_model_sorted kind method a b k most to before now ks more was is l0 l end sorted was_is are learned is_is enough kept carried counted =
+pub has_model_sorted : (kind : Kind) (testing : Testing) (a b k most : ℕ) (to : List ℕ) (before now : List (List ℕ)) (ks more : List Answer) (was is : Result Learned LearnStop) (l0 l : Learned) (end : End) → HasSorted to before now ks more was is → was ≡ Ok l0 → AreAnswers a ks → IsLearned kind a b k most ks l0.model l0.learner → is ≡ Ok l → IsEnoughFor testing a k more l.model
+    → answers_of end.kept.answers ≡ more → end.learner ≡ Some l.learner → end.refinements ≡ refinements_of l.learner → HasModel kind testing a (length now) k most end l.model
+has_model_sorted kind testing a b k most to before now ks more was is l0 l end sorted was_is are learned is_is enough kept carried counted =
     let settled = sorted_settled to before now ks more was is l0 l sorted was_is is_is kind a b k most are learned in
     let certified : IsCertified a (length now) k (answers_of end.kept.answers) l.model = subst (λ (xs : List Answer). IsCertified a (length now) k xs l.model) (sym kept) settled.certified in
     record {
       certified = certified;
-      enough = subst (λ (xs : List Answer). IsEnoughFor method a k xs l.model) (sym kept) enough;
+      enough = subst (λ (xs : List Answer). IsEnoughFor testing a k xs l.model) (sym kept) enough;
       canonical = λ m machine few gives. model_is_canonical a (length now) k (answers_of end.kept.answers) l.model certified m machine few gives;
       least = λ m machine gives. settled.least m machine (subst (Gives m) kept gives);
       learner = l.learner;

@@ -8,7 +8,7 @@ use Rattle.lw_cache.specs.declared.stops.AskStop.{AskStop}
 use Rattle.lw_cache.specs.declared.stops.AskStop.TheVariants as ask
 use Rattle.lw_mealy.specs.Machine.{Gives, MealyMachine, Rows, IsMachine}
 use Rattle.lw_separate.specs.Canonical.{IsCanonical}
-use Rattle.lw_chunks.specs.declared.method.Method.{Method}
+use Rattle.lw_rounds.specs.declared.settings.Testing.{Testing}
 use Rattle.lw_rounds.specs.Learned.{IsCertified, IsEnoughFor, IsReadOff, IsTooLarge}
 use Rattle.lw_rounds.specs.Learner.{refinements_of}
 use Rattle.lw_rounds.specs.declared.learner.Kind.{Kind}
@@ -35,12 +35,12 @@ pub record IsReadOffAs (kind : Kind) (a most : ℕ) (ks : List Answer) (rows : R
   pub read_off : IsReadOff kind a count most own_answers own_rows learner
 
 -- the end has this model, and the recorded answers fix it
-pub record HasModel (kind : Kind) (method : Method) (a b k most : ℕ) (end : End) (h : MealyMachine) : Type 0 where
+pub record HasModel (kind : Kind) (testing : Testing) (a b k most : ℕ) (end : End) (h : MealyMachine) : Type 0 where
   -- complete, within the limits and in canonical form; it agrees with the recorded answers; and every machine of at
   -- most k states more that agrees with them does on every word what the model does
   pub certified : IsCertified a b k (answers_of end.kept.answers) h
-  -- the verdict on it, by the suites that were asked for, is that the answers are enough
-  pub enough : IsEnoughFor method a k (answers_of end.kept.answers) h
+  -- by the suites that were asked for the verdict on it is that the answers are enough, and its walks, where some are drawn, are known
+  pub enough : IsEnoughFor testing a k (answers_of end.kept.answers) h
   -- so it is the canonical form of each such machine
   pub canonical : (m : Rows) → IsMachine a m → length m ≤ length h.rows + k →
       Gives m (answers_of end.kept.answers) → IsCanonical a m h.rows

@@ -1,5 +1,5 @@
 -- What a test comes to, by its suite.
-use Rattle.std.proofs.Common.{◌≡◌, ℕ, ◌<◌, ◌≤◌, List, length, None, Err, refl, ap, sym, ◌∙◌, subst, subst₂}
+use Rattle.std.proofs.Common.{◌≡◌, ℕ, ◌<◌, ◌≤◌, List, ◌++◌, length, Option, Some, None, Result, Ok, Err, IfOk, refl, ap, sym, ◌∙◌, subst, subst₂}
 use Rattle.std.specs.List.{All}
 use Rattle.lw_words.specs.Word.{Answer, AreAnswers, answers_of, IsWord}
 use Rattle.lw_words.specs.declared.kept.KeptAnswer.{KeptAnswer}
@@ -14,10 +14,14 @@ use Rattle.lw_cache.proofs.SettlingLemmas.{kept_are_answers, leaves_short}
 use Rattle.lw_certify.specs.Verdict.{IsSuiteBy, IsVerdict}
 use Rattle.lw_certify.specs.declared.verdict.Verdict.TheVariants as verdict
 use Rattle.lw_certify.proofs.EnoughLemmas.{suite_is_enough, suites_are_of_words}
-use Rattle.lw_rounds.specs.Learned.{IsCertified, IsEnoughFor, IsTooLarge}
+use Rattle.lw_draw.specs.Walks.{AreWalks}
+use Rattle.lw_draw.specs.declared.drawing.Drawn.{Drawn}
+use Rattle.lw_rounds.specs.Learned.{AreWalked, IsCertified, IsEnoughFor, IsTooLarge}
 use Rattle.lw_rounds.specs.Stops.{learn_stop}
-use Rattle.lw_rounds.specs.bodies.Conformance.{Passes}
+use Rattle.lw_rounds.specs.bodies.Conformance.{Comes, ComesWalked, HasPassed, Passes}
 use Rattle.lw_rounds.specs.bodies.Rounds.{HasCrowd, IsSureOf, StopsTest, of_fault}
+use Rattle.lw_rounds.specs.declared.settings.Testing.{Testing}
+use Rattle.lw_rounds.proofs.ConformanceLemmas.{known_more}
 use Rattle.lw_rounds.proofs.CanonicalLemmas.{equal_gives, of_itself, no_more_states, as_many}
 
 -- the words of a model's suite are words over the hypothesis's letters
@@ -38,15 +42,32 @@ passes_sure method a b h c ks k suite same is are whole size passes =
     let gives : Gives c ks = equal_gives a c h ks is.equal are passes.gives in
     (minimal, gives, size, suite_is_enough method b c ks k suite machine minimal gives whole passes.known)
 
+-- a hypothesis that passed the suite of its model before, and its walks now: the answers are enough for the model
+pub enough_walked : (testing : Testing) (a : ℕ) (h : Rows) (model : MealyMachine) (k : ℕ) (before gained now : List KeptAnswer) → now ≡ before ++ gained → model.inputs ≡ a → IsCanonical a h model.rows → AreAnswers a (answers_of now)
+    → HasPassed h testing.suite model k (answers_of before) → suite_size (length model.rows) model.inputs k ≤ greatest_suite → Gives h (answers_of now) × AreWalked testing.walks model.inputs (answers_of now) model.rows
+    → IsEnoughFor testing model.inputs k (answers_of now) model
+enough_walked testing a h model k before gained now grown same is are passed size walked =
+    record {
+      verdict = passes_sure testing.suite a model.inputs h model.rows (answers_of now) k passed.suite same is are passed.made size
+          (record { gives = walked.0; known = known_more before gained now passed.suite grown passed.passes.known });
+      walked = walked.1;
+    }
+
+-- what the walks of a model come to, by what is found in them
+pub comes_walked : {E : Type 0} (h : Rows) (a : ℕ) (model : Rows) (drawn : Drawn) (ks : List Answer) (words : List (List ℕ)) → AreWalks a model drawn words → (r : Result (Option (List ℕ)) E) → IfOk r (Comes h ks words) → IfOk r (ComesWalked h a model (Some drawn) ks)
+comes_walked h a model drawn ks words are (Ok None) passes = (passes.gives, (words, are, passes.known))
+comes_walked h a model drawn ks words are (Ok (Some word)) differs = differs
+comes_walked h a model drawn ks words are (Err e) none = tt
+
 -- a model that is certified, for the machine that was tested
-pub sure_of : (h model same : MealyMachine) (method : Method) (k : ℕ) (ks now : List KeptAnswer) → (model.inputs ≡ h.inputs) × (model.outputs ≡ h.outputs) → same ≡ model → ks ≡ now
-    → IsCertified model.inputs model.outputs k (answers_of ks) same → IsEnoughFor method model.inputs k (answers_of ks) same → IsCanonical h.inputs h.rows model.rows → IsSureOf h method k (answers_of now) same
-sure_of h model same method k ks now alphabets is kept certified enough canonical =
-    let Sure : List KeptAnswer → MealyMachine → Type 0 = λ l m. IsSureOf h method k (answers_of l) m in
+pub sure_of : (h model same : MealyMachine) (testing : Testing) (k : ℕ) (ks now : List KeptAnswer) → (model.inputs ≡ h.inputs) × (model.outputs ≡ h.outputs) → same ≡ model → ks ≡ now
+    → IsCertified model.inputs model.outputs k (answers_of ks) same → IsEnoughFor testing model.inputs k (answers_of ks) same → IsCanonical h.inputs h.rows model.rows → IsSureOf h testing k (answers_of now) same
+sure_of h model same testing k ks now alphabets is kept certified enough canonical =
+    let Sure : List KeptAnswer → MealyMachine → Type 0 = λ l m. IsSureOf h testing k (answers_of l) m in
     subst (λ (l : List KeptAnswer). Sure l same) kept
     (record {
       certified = subst₂ (λ (a b : ℕ). IsCertified a b k (answers_of ks) same) alphabets.0 alphabets.1 certified;
-      enough = subst (λ (a : ℕ). IsEnoughFor method a k (answers_of ks) same) alphabets.0 enough;
+      enough = subst (λ (a : ℕ). IsEnoughFor testing a k (answers_of ks) same) alphabets.0 enough;
       canonical = subst (λ (m : MealyMachine). IsCanonical h.inputs h.rows m.rows) (sym is) canonical;
     })
 

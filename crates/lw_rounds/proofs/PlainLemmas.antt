@@ -36,6 +36,7 @@ use Rattle.lw_rounds.specs.Learner.{inputs_of, access_of, refinements_of, IsMach
 use Rattle.lw_rounds.specs.Plain.{IsLearnedPlainly, LearnsAsPlain, plain_task}
 use Rattle.lw_rounds.specs.declared.hypothesis.Tested.{Tested}
 use Rattle.lw_rounds.specs.declared.hypothesis.Tested.TheVariants as told
+use Rattle.lw_rounds.specs.declared.settings.Testing.{Testing}
 use Rattle.lw_rounds.specs.declared.learner.Kind.{Kind}
 use Rattle.lw_rounds.specs.declared.learner.Kind.TheVariants as kind
 use Rattle.lw_rounds.specs.declared.learner.Learner.{Learner}
@@ -186,8 +187,8 @@ once_more task given l now p q after refined once =
     subst (λ (n : ℕ). IsTableAfter task given n q) (sym next) (p, after, refined)
 
 -- the least known word on which the machine differs
-pub goes_by_known : (h : Rows) (w : List ℕ) (l now : Learner) (suites : Method) (k : ℕ) (o n : OracleState) (gained : List KeptAnswer) → IsReady o l → IsMachineOf l h → DiffersFirst h (answers_of o.kept) (Some w) → n.kept ≡ o.kept ++ gained → RefinesByWord h w l now o n → GoesAsPlain l now suites k o n
-goes_by_known h w l now suites k o n gained ready of differs came refines by_w task given p of_task at plain =
+pub goes_by_known : (h : Rows) (w : List ℕ) (l now : Learner) (testing : Testing) (k : ℕ) (o n : OracleState) (gained : List KeptAnswer) → IsReady o l → IsMachineOf l h → DiffersFirst h (answers_of o.kept) (Some w) → n.kept ≡ o.kept ++ gained → RefinesByWord h w l now o n → GoesAsPlain l now testing k o n
+goes_by_known h w l now testing k o n gained ready of differs came refines by_w task given p of_task at plain =
     let m = task.machine in
     let here = is_hypothesis k o l h task p ready of of_task at.at plain.knows.gives in
     let least = first_is_revealed m h (asked_words p.batches) (answers_of o.kept) (Some w) plain.knows differs in
@@ -212,7 +213,7 @@ made_for task l k h model suites suite by_w of inputs same canonical made few =
       few = subst (λ (e : ℕ). suite_size (length model.rows) task.letters e ≤ greatest_suite) (sym of.extra) (subst (λ (a : ℕ). suite_size (length model.rows) a k ≤ greatest_suite) (same ∙ letters) few);
     }
 
-module _ (h : MealyMachine) (l : Learner) (suites : Method) (k : ℕ) (o b : OracleState) (ready : IsReady o l) (of : IsMachineOf l h.rows) (inputs : h.inputs ≡ inputs_of l) (gives : Gives h.rows (answers_of o.kept)) where
+module _ (h : MealyMachine) (l : Learner) (testing : Testing) (k : ℕ) (o b : OracleState) (ready : IsReady o l) (of : IsMachineOf l h.rows) (inputs : h.inputs ≡ inputs_of l) (gives : Gives h.rows (answers_of o.kept)) where
   unrefuted : (task : Task) (p : PlainTable) → IsTaskOf l k task → IsAt l p → KnowsWords task.machine (asked_words p.batches) (answers_of o.kept) → (h.rows ≡ hypothesis_of task p) × IsUnrefuted task p
   unrefuted task p of_task at knows =
       let here = is_hypothesis k o l h.rows task p ready of of_task at knows.gives in (
@@ -224,14 +225,14 @@ module _ (h : MealyMachine) (l : Learner) (suites : Method) (k : ℕ) (o b : Ora
       )
 
   -- a word of the suite
-  pub goes_by_suite : (word : List ℕ) (now : Learner) (n : OracleState) (gained : List KeptAnswer) → TellsByForm h suites k (told.Differs word) o b → b.exact ≡ o.exact → n.kept ≡ b.kept ++ gained → RefinesByWord h.rows word l now b n → GoesAsPlain l now suites k o n
+  pub goes_by_suite : (word : List ℕ) (now : Learner) (n : OracleState) (gained : List KeptAnswer) → TellsByForm h testing k (told.Differs word) o b → b.exact ≡ o.exact → n.kept ≡ b.kept ++ gained → RefinesByWord h.rows word l now b n → GoesAsPlain l now testing k o n
   goes_by_suite word now n gained form exact came refines by_w task given p of_task at plain =
       let m = task.machine in
       let first : IsPlainOracle m p.batches o b = plain_first m p.batches o b n gained came plain in
-      let tested = form.by_suite.tells m p first in
+      let tested = form.by_suite.tells (ap (λ (t : Testing). t.walks) by_w) m p first in
       let q : PlainTable = tested.table in
       let ready_for = unrefuted task p of_task at.at plain.knows in
-      let made = made_for task l k h form.model suites form.by_suite.suite by_w of_task inputs form.inputs form.canonical form.by_suite.made form.by_suite.few in
+      let made = made_for task l k h form.model testing.suite form.by_suite.suite (ap (λ (t : Testing). t.suite) by_w) of_task inputs form.inputs form.canonical form.by_suite.made form.by_suite.few in
       let next : IsPlainOracle m q.batches b n = plain_next m p.batches q.batches o b n exact tested.asks plain in
       let at_q : IsAt l q = other_batches l p q (ap (λ (t : PlainTable). t.access) tested.tests.is) (ap (λ (t : PlainTable). t.suffixes) tested.tests.is) at.at in
       let split : PlainTable = closed_by task (split_by task.letters h.rows q word (search_word m h.rows q.access (length word) word)) in
@@ -244,13 +245,13 @@ module _ (h : MealyMachine) (l : Learner) (suites : Method) (k : ℕ) (o b : Ora
       }
 
   -- the suite finds none
-  pub ends_by_suite : (model : MealyMachine) → TellsByForm h suites k (told.Sure model) o b → EndsAsPlain l l suites k model.rows o b
+  pub ends_by_suite : (model : MealyMachine) → TellsByForm h testing k (told.Sure model) o b → EndsAsPlain l l testing k model.rows o b
   ends_by_suite model form by_w task given p of_task at plain =
       let m = task.machine in
-      let tells = form.by_suite.tells in
+      let tells = form.by_suite.tells (ap (λ (t : Testing). t.walks) by_w) in
       let tested = tells.1 m p plain in
       let ready_for = unrefuted task p of_task at.at plain.knows in
-      let made = made_for task l k h form.model suites form.by_suite.suite by_w of_task inputs form.inputs form.canonical form.by_suite.made form.by_suite.few in
+      let made = made_for task l k h form.model testing.suite form.by_suite.suite (ap (λ (t : Testing). t.suite) by_w) of_task inputs form.inputs form.canonical form.by_suite.made form.by_suite.few in
       let made_now : IsSuiteFor task h.rows model.rows form.by_suite.suite = subst (λ (x : MealyMachine). IsSuiteFor task h.rows x.rows form.by_suite.suite) (sym tells.0) made in
       let tests_now : TestsWords m (hypothesis_of task p) form.by_suite.suite p tested.table None = subst (λ (g : Rows). TestsWords m g form.by_suite.suite p tested.table None) ready_for.0 tested.tests in
       record {
@@ -274,25 +275,25 @@ no_block (Tree t) now p at alike more = elim at [ ]
 no_block (Table t) (Table u) p at alike more = omega (arith, more)
 no_block (Table t) (Tree u) p at alike more = let same : kind.Ttt ≡ kind.Table = alike.kind in cc
 
-pub replaced_goes : (l now : Learner) (suites : Method) (k : ℕ) (o n : OracleState) → IsAlike l now → finals_of l < finals_of now → GoesAsPlain l now suites k o n
-replaced_goes l now suites k o n alike more by_w task given p of_task at plain = absurd (no_block l now p at.at alike more)
+pub replaced_goes : (l now : Learner) (testing : Testing) (k : ℕ) (o n : OracleState) → IsAlike l now → finals_of l < finals_of now → GoesAsPlain l now testing k o n
+replaced_goes l now testing k o n alike more by_w task given p of_task at plain = absurd (no_block l now p at.at alike more)
 
 -- Rounds one after the other.
-pub goes_nowhere : (l : Learner) (suites : Method) (k : ℕ) (o : OracleState) → GoesAsPlain l l suites k o o
-goes_nowhere l suites k o by_w task given p of_task at plain = record { table = p; at = at; asks = asks_nothing task.machine p.batches o.kept plain.knows }
+pub goes_nowhere : (l : Learner) (testing : Testing) (k : ℕ) (o : OracleState) → GoesAsPlain l l testing k o o
+goes_nowhere l testing k o by_w task given p of_task at plain = record { table = p; at = at; asks = asks_nothing task.machine p.batches o.kept plain.knows }
 
 task_alike : (l now : Learner) (k : ℕ) (task : Task) → IsAlike l now → IsTaskOf l k task → IsTaskOf now k task
 task_alike l now k task alike of = record { letters = of.letters ∙ sym alike.inputs; extra = of.extra; most = of.most ∙ sym alike.most }
 
-module _ (l between now : Learner) (suites : Method) (k : ℕ) (o b n : OracleState) (gained : List KeptAnswer) (alike : IsAlike l between) (exact : b.exact ≡ o.exact) (came : n.kept ≡ b.kept ++ gained) (first : GoesAsPlain l between suites k o b) where
-  pub goes_then : GoesAsPlain between now suites k b n → GoesAsPlain l now suites k o n
+module _ (l between now : Learner) (testing : Testing) (k : ℕ) (o b n : OracleState) (gained : List KeptAnswer) (alike : IsAlike l between) (exact : b.exact ≡ o.exact) (came : n.kept ≡ b.kept ++ gained) (first : GoesAsPlain l between testing k o b) where
+  pub goes_then : GoesAsPlain between now testing k b n → GoesAsPlain l now testing k o n
   goes_then next by_w task given p of_task at plain =
       let m = task.machine in
       let one = first by_w task given p of_task at (plain_first m p.batches o b n gained came plain) in
       let two = next by_w task given one.table (task_alike l between k task alike of_task) one.at (plain_next m p.batches one.table.batches o b n exact one.asks plain) in
       record { table = two.table; at = two.at; asks = asks_on m p.batches one.table.batches two.table.batches o.kept b.kept n.kept one.asks two.asks }
 
-  pub ends_then : (model : Rows) → EndsAsPlain between now suites k model b n → EndsAsPlain l now suites k model o n
+  pub ends_then : (model : Rows) → EndsAsPlain between now testing k model b n → EndsAsPlain l now testing k model o n
   ends_then model next by_w task given p of_task at plain =
       let m = task.machine in
       let one = first by_w task given p of_task at (plain_first m p.batches o b n gained came plain) in
@@ -300,9 +301,9 @@ module _ (l between now : Learner) (suites : Method) (k : ℕ) (o b n : OracleSt
       record { batches = two.batches; learns = two.learns; asks = asks_on m p.batches one.table.batches two.batches o.kept b.kept n.kept one.asks two.asks }
 
 -- A learning from a new table.
-pub learns_from_new : (l closed now : Learner) (suites : Method) (k : ℕ) (model : Rows) (o b n : OracleState) (gained : List KeptAnswer) → IsAlike l closed → ClosesAsPlain l closed o b → b.exact ≡ o.exact → n.kept ≡ b.kept ++ gained → EndsAsPlain closed now suites k model b n
-    → LearnsFromNew l now suites k model o n
-learns_from_new l closed now suites k model o b n gained alike closes exact came ends a outs most new is_table by_w m given plain =
+pub learns_from_new : (l closed now : Learner) (testing : Testing) (k : ℕ) (model : Rows) (o b n : OracleState) (gained : List KeptAnswer) → IsAlike l closed → ClosesAsPlain l closed o b → b.exact ≡ o.exact → n.kept ≡ b.kept ++ gained → EndsAsPlain closed now testing k model b n
+    → LearnsFromNew l now testing k model o n
+learns_from_new l closed now testing k model o b n gained alike closes exact came ends a outs most new is_table by_w m given plain =
     from closed (subst (λ (x : Learner). IsAlike x closed) new alike) (subst (λ (x : Learner). ClosesAsPlain x closed o b) new closes) ends
   where
     task : Task
@@ -311,7 +312,7 @@ learns_from_new l closed now suites k model o b n gained alike closes exact came
     asked : List (List (List ℕ))
     asked = unless_empty given
 
-    from : (u : Learner) → IsAlike (Table (new_table a outs most)) u → ClosesAsPlain (Table (new_table a outs most)) u o b → EndsAsPlain u now suites k model b n → IsLearnedPlainly (plain_task a m k most) given model (refinements_of now) (unless_empty given) o.kept n.kept
+    from : (u : Learner) → IsAlike (Table (new_table a outs most)) u → ClosesAsPlain (Table (new_table a outs most)) u o b → EndsAsPlain u now testing k model b n → IsLearnedPlainly (plain_task a m k most) given model (refinements_of now) (unless_empty given) o.kept n.kept
     from (Tree u) alike closes ends = elim closes [ ]
     from (Table u) alike closes ends =
         let comes = closes.0 m (unless_empty given) (plain_first m (unless_empty given) o b n gained came plain) in
@@ -342,21 +343,21 @@ refines_table suffix t u o n (Ok x) refines once = (refines, once)
 refines_table suffix t u o n (Err e) refines once = tt
 
 -- what a test tells, by its result
-module _ {E : Type 0} (h : MealyMachine) (suites : Method) (k : ℕ) (model : MealyMachine) (o n : OracleState) where
-  pub told_by_form : model.inputs ≡ h.inputs → IsCanonical h.inputs h.rows model.rows → (r : Result Tested E) → IfOk r (λ told. TellsBySuite h.rows suites k model told o n) → IfOk r (λ told. TellsByForm h suites k told o n)
+module _ {E : Type 0} (h : MealyMachine) (testing : Testing) (k : ℕ) (model : MealyMachine) (o n : OracleState) where
+  pub told_by_form : model.inputs ≡ h.inputs → IsCanonical h.inputs h.rows model.rows → (r : Result Tested E) → IfOk r (λ told. TellsBySuite h.rows testing k model told o n) → IfOk r (λ told. TellsByForm h testing k told o n)
   told_by_form inputs canonical (Ok t) tells = record { model = model; inputs = inputs; canonical = canonical; by_suite = tells }
   told_by_form inputs canonical (Err e) tells = tt
 
-pub told_by_suite : {E : Type 0} (h : Rows) (suites : Method) (k : ℕ) (model : MealyMachine) (suite : List (List ℕ)) (o n : OracleState) → IsSuiteBy suites model.inputs model.rows k suite → suite_size (length model.rows) model.inputs k ≤ greatest_suite
-    → (r : Result Tested E) → IfOk r (λ told. TellsPlainly h suite model told o n) → IfOk r (λ told. TellsBySuite h suites k model told o n)
-told_by_suite h suites k model suite o n made few (Ok t) tells = record { suite = suite; made = made; few = few; tells = tells }
-told_by_suite h suites k model suite o n made few (Err e) tells = tt
+pub told_by_suite : {E : Type 0} (h : Rows) (testing : Testing) (k : ℕ) (model : MealyMachine) (suite : List (List ℕ)) (o n : OracleState) → IsSuiteBy testing.suite model.inputs model.rows k suite → suite_size (length model.rows) model.inputs k ≤ greatest_suite
+    → (r : Result Tested E) → (testing.walks ≡ None → IfOk r (λ told. TellsPlainly h suite model told o n)) → IfOk r (λ told. TellsBySuite h testing k model told o n)
+told_by_suite h testing k model suite o n made few (Ok t) tells = record { suite = suite; made = made; few = few; tells = tells }
+told_by_suite h testing k model suite o n made few (Err e) tells = tt
 
-pub learned_from_new : {E : Type 0} (l closed now : Learner) (suites : Method) (k : ℕ) (o b n : OracleState) (gained : List KeptAnswer) → IsAlike l closed → ClosesAsPlain l closed o b → b.exact ≡ o.exact → n.kept ≡ b.kept ++ gained
-    → (r : Result MealyMachine E) → IfOk r (λ model. EndsAsPlain closed now suites k model.rows b n) → IfOk r (λ model. LearnsFromNew l now suites k model.rows o n)
-learned_from_new l closed now suites k o b n gained alike closes exact came (Ok model) ends = learns_from_new l closed now suites k model.rows o b n gained alike closes exact came ends
-learned_from_new l closed now suites k o b n gained alike closes exact came (Err e) ends = tt
+pub learned_from_new : {E : Type 0} (l closed now : Learner) (testing : Testing) (k : ℕ) (o b n : OracleState) (gained : List KeptAnswer) → IsAlike l closed → ClosesAsPlain l closed o b → b.exact ≡ o.exact → n.kept ≡ b.kept ++ gained
+    → (r : Result MealyMachine E) → IfOk r (λ model. EndsAsPlain closed now testing k model.rows b n) → IfOk r (λ model. LearnsFromNew l now testing k model.rows o n)
+learned_from_new l closed now testing k o b n gained alike closes exact came (Ok model) ends = learns_from_new l closed now testing k model.rows o b n gained alike closes exact came ends
+learned_from_new l closed now testing k o b n gained alike closes exact came (Err e) ends = tt
 
-pub learned_of_kind : (of_kind : Kind) (suites : Method) (a b inputs k most : ℕ) (l now : Learner) (model : Rows) (o n : OracleState) → a ≡ inputs → IsNewTable of_kind a b most l → LearnsFromNew l now suites k model o n → LearnsAsPlain of_kind suites inputs k most model (refinements_of now) o n
-learned_of_kind of_kind suites a b inputs k most l now model o n same new learns is_table by_w =
-    subst (λ (x : ℕ). LearnsAsPlain kind.Table suites x k most model (refinements_of now) o n) same (learns a b most (new is_table)) refl by_w
+pub learned_of_kind : (of_kind : Kind) (testing : Testing) (a b inputs k most : ℕ) (l now : Learner) (model : Rows) (o n : OracleState) → a ≡ inputs → IsNewTable of_kind a b most l → LearnsFromNew l now testing k model o n → LearnsAsPlain of_kind testing inputs k most model (refinements_of now) o n
+learned_of_kind of_kind testing a b inputs k most l now model o n same new learns is_table by_w =
+    subst (λ (x : ℕ). LearnsAsPlain kind.Table testing x k most model (refinements_of now) o n) same (learns a b most (new is_table)) refl by_w

@@ -9,7 +9,7 @@ use Rattle.lw_cache.specs.declared.stops.GrowStop.TheVariants as grow
 use Rattle.lw_cache.proofs.SettlingLemmas.{kept_are_answers}
 use Rattle.lw_separate.specs.Canonical.{IsCanonical}
 use Rattle.lw_chunks.specs.Size.{suite_size}
-use Rattle.lw_chunks.specs.declared.method.Method.{Method}
+use Rattle.lw_rounds.specs.declared.settings.Testing.{Testing}
 use Rattle.lw_rounds.specs.Learned.{IsCertified, IsEnoughFor, IsLearned, StopsAs}
 use Rattle.lw_rounds.specs.Learner.{kind_of, inputs_of, outputs_of, most_of, access_of, refinements_of, HasNoTemporary, IsLearner, IsMachineOf}
 use Rattle.lw_rounds.specs.Stops.{of_growth}
@@ -58,8 +58,8 @@ growth_as a b k most ks (grow.Crowd words) is = is
 pub alike_then : (l m n : Learner) → IsAlike l m → IsAlike m n → IsAlike l n
 alike_then l m n first next = record { kind = next.kind ∙ first.kind; inputs = next.inputs ∙ first.inputs; outputs = next.outputs ∙ first.outputs; most = next.most ∙ first.most }
 
-module _ (o : OracleState) (l : Learner) (h model : MealyMachine) (method : Method) (k : ℕ) (ready : IsReady o l) (settled : HasNoTemporary l) (of : IsMachineOf l h.rows) (machine : IsMachine h.inputs h.rows) (inputs : h.inputs ≡ inputs_of l) (outputs : h.outputs ≡ outputs_of l)
-    (sure : IsSureOf h method k (answers_of o.kept) model) where
+module _ (o : OracleState) (l : Learner) (h model : MealyMachine) (testing : Testing) (k : ℕ) (ready : IsReady o l) (settled : HasNoTemporary l) (of : IsMachineOf l h.rows) (machine : IsMachine h.inputs h.rows) (inputs : h.inputs ≡ inputs_of l) (outputs : h.outputs ≡ outputs_of l)
+    (sure : IsSureOf h testing k (answers_of o.kept) model) where
   certified : IsCertified (inputs_of l) (outputs_of l) k (answers_of o.kept) model
   certified = subst₂ (λ (a b : ℕ). IsCertified a b k (answers_of o.kept) model) inputs outputs sure.certified
 
@@ -94,17 +94,17 @@ module _ (o : OracleState) (l : Learner) (h model : MealyMachine) (method : Meth
         };
       }
 
-  pub is_learned : IsLearnedFrom l method k (answers_of o.kept) model l
-  is_learned = record { learned = learned; enough = subst (λ (a : ℕ). IsEnoughFor method a k (answers_of o.kept) model) inputs sure.enough }
+  pub is_learned : IsLearnedFrom l testing k (answers_of o.kept) model l
+  is_learned = record { learned = learned; enough = subst (λ (a : ℕ). IsEnoughFor testing a k (answers_of o.kept) model) inputs sure.enough }
 
 -- what is learned, said of the numbers of a learner alike
-pub learned_alike : (l m n : Learner) (method : Method) (k : ℕ) (ks : List Answer) (model : MealyMachine) → IsAlike l m → IsLearnedFrom m method k ks model n → IsLearnedFrom l method k ks model n
-learned_alike l m n method k ks model alike is =
+pub learned_alike : (l m n : Learner) (testing : Testing) (k : ℕ) (ks : List Answer) (model : MealyMachine) → IsAlike l m → IsLearnedFrom m testing k ks model n → IsLearnedFrom l testing k ks model n
+learned_alike l m n testing k ks model alike is =
     record {
       learned = subst (λ (x : Kind). IsLearned x (inputs_of l) (outputs_of l) k (most_of l) ks model n) alike.kind
           (subst (λ (x : ℕ). IsLearned (kind_of m) (inputs_of l) (outputs_of l) k x ks model n) alike.most
           (subst₂ (λ (a b : ℕ). IsLearned (kind_of m) a b k (most_of m) ks model n) alike.inputs alike.outputs is.learned));
-      enough = subst (λ (a : ℕ). IsEnoughFor method a k ks model) alike.inputs is.enough;
+      enough = subst (λ (a : ℕ). IsEnoughFor testing a k ks model) alike.inputs is.enough;
     }
 
 pub stops_alike : (l m : Learner) (k : ℕ) (ks : List Answer) (stop : LearnStop) → IsAlike l m → StopsFrom m k ks stop → StopsFrom l k ks stop
@@ -164,12 +164,12 @@ closing_stops kind a b k most ks l stop new is = growth_as a b k most ks stop (s
 pub stops_from : (kind : Kind) (a b k most : ℕ) (ks : List Answer) (l m : Learner) (stop : LearnStop) → IsNew kind a b most l → IsAlike l m → StopsFrom m k ks stop → StopsAs a b k most ks stop
 stops_from kind a b k most ks l m stop new alike is = new_alike kind a b k most ks l stop new (stops_alike l m k ks stop alike is)
 
-pub learned_from : (kind : Kind) (method : Method) (a b k most : ℕ) (ks : List Answer) (l m n : Learner) (model : MealyMachine) → IsNew kind a b most l → IsAlike l m → IsLearnedFrom m method k ks model n → IsLearned kind a b k most ks model n
-learned_from kind method a b k most ks l m n model new alike is =
+pub learned_from : (kind : Kind) (testing : Testing) (a b k most : ℕ) (ks : List Answer) (l m n : Learner) (model : MealyMachine) → IsNew kind a b most l → IsAlike l m → IsLearnedFrom m testing k ks model n → IsLearned kind a b k most ks model n
+learned_from kind testing a b k most ks l m n model new alike is =
     subst (λ (x : Kind). IsLearned x a b k most ks model n) new.of_kind
     (subst (λ (x : ℕ). IsLearned (kind_of l) a b k x ks model n) new.limit
-    (subst₂ (λ (x y : ℕ). IsLearned (kind_of l) x y k (most_of l) ks model n) new.inputs new.outputs (learned_alike l m n method k ks model alike is).learned))
+    (subst₂ (λ (x y : ℕ). IsLearned (kind_of l) x y k (most_of l) ks model n) new.inputs new.outputs (learned_alike l m n testing k ks model alike is).learned))
 
-pub enough_from : (kind : Kind) (method : Method) (a b k most : ℕ) (ks : List Answer) (l m n : Learner) (model : MealyMachine) → IsNew kind a b most l → IsAlike l m → IsLearnedFrom m method k ks model n → IsEnoughFor method a k ks model
-enough_from kind method a b k most ks l m n model new alike is =
-    subst (λ (x : ℕ). IsEnoughFor method x k ks model) new.inputs (learned_alike l m n method k ks model alike is).enough
+pub enough_from : (kind : Kind) (testing : Testing) (a b k most : ℕ) (ks : List Answer) (l m n : Learner) (model : MealyMachine) → IsNew kind a b most l → IsAlike l m → IsLearnedFrom m testing k ks model n → IsEnoughFor testing a k ks model
+enough_from kind testing a b k most ks l m n model new alike is =
+    subst (λ (x : ℕ). IsEnoughFor testing x k ks model) new.inputs (learned_alike l m n testing k ks model alike is).enough

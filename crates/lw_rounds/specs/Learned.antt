@@ -1,14 +1,18 @@
 -- What a learning says by its answer. Source: the learner of Angluin (1987), whose equivalence query is here a suite, as that of
 -- Vasilevskii (1973) and Chow (1978).
-use Rattle.std.specs.Prelude.{◌≡◌, ℕ, ◌+◌, ◌<◌, ◌≤◌, List, length}
+use Rattle.std.specs.Prelude.{◌≡◌, ℕ, ◌+◌, ◌<◌, ◌≤◌, List, length, Option, None, Some}
+use Rattle.std.specs.List.{All}
 use Rattle.lw_words.specs.Word.{Answer}
 use Rattle.lw_mealy.specs.Machine.{Gives, MealyMachine, IsWithinLimits, Rows, Sure}
 use Rattle.lw_cache.specs.Crowd.{IsCrowd}
+use Rattle.lw_cache.specs.Known.{IsKnown}
 use Rattle.lw_separate.specs.Canonical.{IsCanonical}
 use Rattle.lw_chunks.specs.Size.{suite_size, greatest_suite}
-use Rattle.lw_chunks.specs.declared.method.Method.{Method}
 use Rattle.lw_certify.specs.Verdict.{IsVerdict}
 use Rattle.lw_certify.specs.declared.verdict.Verdict.TheVariants as verdict
+use Rattle.lw_draw.specs.Walks.{AreWalks}
+use Rattle.lw_draw.specs.declared.drawing.Drawn.{Drawn}
+use Rattle.lw_rounds.specs.declared.settings.Testing.{Testing}
 use Rattle.lw_rounds.specs.Learner.{kind_of, inputs_of, outputs_of, most_of, access_of, refinements_of, IsLearner, IsRead, IsClosedLearner, HasNoTemporary, IsMachineOf}
 use Rattle.lw_rounds.specs.declared.learner.Kind.{Kind}
 use Rattle.lw_rounds.specs.declared.learner.Learner.{Learner}
@@ -24,9 +28,16 @@ pub record IsCertified (a b k : ℕ) (ks : List Answer) (model : MealyMachine) :
   pub gives : Gives model.rows ks
   pub sure : Sure a model.rows ks k
 
--- the answers are enough for the model by the suites that are made so: this is the verdict on it for k extra states
-abbrev pub IsEnoughFor : Method → ℕ → ℕ → List Answer → MealyMachine → Type 0
-IsEnoughFor method a k ks model = IsVerdict method a model.rows ks k verdict.Sure
+-- where walks are drawn, those of the machine are known
+abbrev pub AreWalked : Option Drawn → ℕ → List Answer → Rows → Type 0
+AreWalked None a ks h = Unit {0}
+AreWalked (Some drawn) a ks h = (words : List (List ℕ)) × AreWalks a h drawn words × All (IsKnown ks) words
+
+-- the answers are enough for the model by such tests: this is the verdict on it for k extra states, by the suites that are made so,
+-- and all walks are known
+pub record IsEnoughFor (testing : Testing) (a k : ℕ) (ks : List Answer) (model : MealyMachine) : Type 0 where
+  pub verdict : IsVerdict testing.suite a model.rows ks k verdict.Sure
+  pub walked : AreWalked testing.walks a ks model.rows
 
 -- the learner is of the kind that was asked for; it is closed, a tree without temporary nodes; the rows are the canonical form
 -- of its machine, and its access words, as many as its states, are pairwise apart

@@ -1,4 +1,4 @@
-//! The words of a suite are settled until the hypothesis differs on one.
+//! The words of a suite, or walks, are settled until the hypothesis differs on one.
 ghost use Rattle.std.specs.Prelude.{◌≡◌, ◌<◌, ◌^◌, length, IfOk, OnOk};
 ghost use Rattle.std.specs.List.{All};
 ghost use Rattle.lw_words.specs.Word.{answers_of, IsWord};
@@ -51,12 +51,13 @@ fn settle_words<O: Oracle>(
     Ok(first_difference(cache, hypothesis, words)?)
 }
 
-/// Settles what is left of a suite, chunk by chunk, until the hypothesis differs.
+/// Settles what is left of a suite or of walks, chunk by chunk, until the hypothesis differs.
 fn settle_chunks<O: Oracle, S: Chunks, W: Watcher>(
     oracle: &mut O,
     hypothesis: &Mealy,
     suite: &mut S,
     chunk: &mut Vec<Word>,
+    phase: Phase,
     account: &mut Account<'_, W>,
 ) -> Result<Option<Word>, AskStop>
     requires can { O.can_settle oracle.old }
@@ -75,7 +76,7 @@ fn settle_chunks<O: Oracle, S: Chunks, W: Watcher>(
 {
     while suite.next_chunk(chunk)? {
         let found = settle_words(oracle, hypothesis, chunk.as_slice())?;
-        account.tell(Phase::Suite, oracle);
+        account.tell(phase, oracle);
         if let Some(word) = found {
             return Ok(Some(word));
         }
@@ -83,12 +84,13 @@ fn settle_chunks<O: Oracle, S: Chunks, W: Watcher>(
     Ok(None)
 }
 
-/// Settles a suite, chunk by chunk, until the hypothesis differs.
+/// Settles a suite or walks, chunk by chunk, until the hypothesis differs.
 pub fn settle_suite<O: Oracle, S: Chunks, W: Watcher>(
     oracle: &mut O,
     alloc: Global,
     hypothesis: &Mealy,
     suite: &mut S,
+    phase: Phase,
     account: &mut Account<'_, W>,
 ) -> Result<Option<Word>, AskStop>
     requires can { O.can_settle oracle.old }
@@ -106,5 +108,5 @@ pub fn settle_suite<O: Oracle, S: Chunks, W: Watcher>(
     ensures can { O.can_settle oracle.new }
 {
     let mut chunk = Vec::new(alloc);
-    settle_chunks(oracle, hypothesis, suite, &mut chunk, account)
+    settle_chunks(oracle, hypothesis, suite, &mut chunk, phase, account)
 }

@@ -31,9 +31,9 @@ fn learn_from<O: Oracle, W: Watcher>(
     requires inputs { inputs_of learner.old ≡ (O.state oracle.old).inputs }
     requires outputs { outputs_of learner.old ≡ (O.state oracle.old).outputs }
     requires read { IsRead (answers_of (O.state oracle.old).kept) learner.old }
-    ensures learned { IfOk result (λ model. IsLearnedFrom learner.old settings.suite settings.extra
+    ensures learned { IfOk result (λ model. IsLearnedFrom learner.old settings.testing settings.extra
         (answers_of (O.state oracle.new).kept) model learner.new) }
-    ensures plainly { IfOk result (λ model. LearnsFromNew learner.old learner.new settings.suite
+    ensures plainly { IfOk result (λ model. LearnsFromNew learner.old learner.new settings.testing
         settings.extra model.rows (O.state oracle.old) (O.state oracle.new)) }
     ensures stops { IfErr result (StopsFrom learner.old settings.extra
         (answers_of (O.state oracle.new).kept)) }
@@ -48,12 +48,12 @@ fn learn_from<O: Oracle, W: Watcher>(
 
 #[tactic(auto, using(lw_cache::proofs::SettlingLemmas::leaves_nothing, crate::proofs::StopLemmas::leaves_learn_own))]
 /// A model of the system behind an oracle, which every machine of at most the extra states more that agrees with the
-/// recorded answers equals: a learner of the kind is closed and its machine tested, until nothing known and no word of
-/// its suite tells it apart (Angluin 1987, or Isberner, Howar and Steffen 2014, with a suite that is made as the
-/// settings say, as that of Vasilevskii 1973 and Chow 1978).
+/// recorded answers equals: a learner of the kind is closed and its machine tested, until nothing known, no word of its suite and
+/// none of its walks, where some are drawn, tells it apart (Angluin 1987, or Isberner, Howar and Steffen 2014, with a suite that
+/// is made as the settings say, as that of Vasilevskii 1973 and Chow 1978). Walks are drawn behind each suite that is passed.
 ///
-/// The watcher is told of the first closing, of each chunk of a suite, of each refinement with the closing that it makes, and of
-/// each settling that replaced a block.
+/// The watcher is told of the first closing, of each chunk of a suite or of walks, of each refinement with the closing that it
+/// makes, and of each settling that replaced a block.
 ///
 /// # Errors
 /// What the oracle stopped by, or out of memory; pairwise apart words, one more than there may be states; or the
@@ -72,9 +72,9 @@ pub fn learn<O: Oracle, W: Watcher>(
     ensures learned { IfOk result (λ l. IsLearned settings.kind (O.state oracle.old).inputs
         (O.state oracle.old).outputs settings.extra settings.max_states
         (answers_of (O.state oracle.new).kept) l.model l.learner) }
-    ensures enough { IfOk result (λ l. IsEnoughFor settings.suite (O.state oracle.old).inputs
+    ensures enough { IfOk result (λ l. IsEnoughFor settings.testing (O.state oracle.old).inputs
         settings.extra (answers_of (O.state oracle.new).kept) l.model) }
-    ensures plainly { IfOk result (λ l. LearnsAsPlain settings.kind settings.suite
+    ensures plainly { IfOk result (λ l. LearnsAsPlain settings.kind settings.testing
         (O.state oracle.old).inputs settings.extra settings.max_states l.model.rows
         (refinements_of l.learner) (O.state oracle.old) (O.state oracle.new)) }
     ensures stops { IfErr result (StopsAs (O.state oracle.old).inputs

@@ -19,6 +19,6 @@ pub use laws::{
 pub use learned::Learned;
 pub use learner::{Kind, Learner};
 pub use learning::learn;
-pub use settings::Settings;
+pub use settings::{Settings, Testing};
 pub use stops::LearnStop;
 pub use watcher::{Phase, Step, Unwatched, Watcher};

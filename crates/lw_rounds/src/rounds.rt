@@ -49,8 +49,8 @@ fn refine<O: Oracle, W: Watcher>(
     Ok(())
 }
 
-/// The end of a round: the machine of a learner agrees with what is known, no node of a tree is temporary, and its
-/// suite is tested.
+/// The end of a round: the machine of a learner agrees with what is known, no node of a tree is temporary, and it is tested
+/// by its suite and its walks.
 fn round_by_suite<O: Oracle, W: Watcher>(
     oracle: &mut O,
     alloc: Global,
@@ -69,9 +69,9 @@ fn round_by_suite<O: Oracle, W: Watcher>(
     ensures ready { OnOk result (IsReady (O.state oracle.new) learner.new) }
     ensures alike { IsAlike learner.old learner.new }
     ensures goes { IfOk result (λ found. MatchOption found (GoesOn learner.old learner.new)
-        (λ model. IsLearnedFrom learner.old settings.suite settings.extra
+        (λ model. IsLearnedFrom learner.old settings.testing settings.extra
         (answers_of (O.state oracle.new).kept) model learner.new)) }
-    ensures plainly { IfOk result (λ found. RoundsAsPlain learner.old learner.new settings.suite
+    ensures plainly { IfOk result (λ found. RoundsAsPlain learner.old learner.new settings.testing
         settings.extra found (O.state oracle.old) (O.state oracle.new)) }
     ensures stops { IfErr result (StopsFrom learner.old settings.extra
         (answers_of (O.state oracle.new).kept)) }
@@ -107,9 +107,9 @@ fn round_with<O: Oracle, W: Watcher>(
     ensures ready { OnOk result (IsReady (O.state oracle.new) learner.new) }
     ensures alike { IsAlike learner.old learner.new }
     ensures goes { IfOk result (λ found. MatchOption found (GoesOn learner.old learner.new)
-        (λ model. IsLearnedFrom learner.old settings.suite settings.extra
+        (λ model. IsLearnedFrom learner.old settings.testing settings.extra
         (answers_of (O.state oracle.new).kept) model learner.new)) }
-    ensures plainly { IfOk result (λ found. RoundsAsPlain learner.old learner.new settings.suite
+    ensures plainly { IfOk result (λ found. RoundsAsPlain learner.old learner.new settings.testing
         settings.extra found (O.state oracle.old) (O.state oracle.new)) }
     ensures stops { IfErr result (StopsFrom learner.old settings.extra
         (answers_of (O.state oracle.new).kept)) }
@@ -143,9 +143,9 @@ fn round<O: Oracle, W: Watcher>(
     ensures ready { OnOk result (IsReady (O.state oracle.new) learner.new) }
     ensures alike { IsAlike learner.old learner.new }
     ensures goes { IfOk result (λ found. MatchOption found (GoesOn learner.old learner.new)
-        (λ model. IsLearnedFrom learner.old settings.suite settings.extra
+        (λ model. IsLearnedFrom learner.old settings.testing settings.extra
         (answers_of (O.state oracle.new).kept) model learner.new)) }
-    ensures plainly { IfOk result (λ found. RoundsAsPlain learner.old learner.new settings.suite
+    ensures plainly { IfOk result (λ found. RoundsAsPlain learner.old learner.new settings.testing
         settings.extra found (O.state oracle.old) (O.state oracle.new)) }
     ensures stops { IfErr result (StopsFrom learner.old settings.extra
         (answers_of (O.state oracle.new).kept)) }
@@ -168,9 +168,9 @@ pub fn rounds<O: Oracle, W: Watcher>(
 ) -> Result<Mealy, LearnStop>
     requires can { O.can_settle oracle.old }
     requires ready { IsReady (O.state oracle.old) learner.old }
-    ensures learned { IfOk result (λ model. IsLearnedFrom learner.old settings.suite settings.extra
+    ensures learned { IfOk result (λ model. IsLearnedFrom learner.old settings.testing settings.extra
         (answers_of (O.state oracle.new).kept) model learner.new) }
-    ensures plainly { IfOk result (λ model. EndsAsPlain learner.old learner.new settings.suite
+    ensures plainly { IfOk result (λ model. EndsAsPlain learner.old learner.new settings.testing
         settings.extra model.rows (O.state oracle.old) (O.state oracle.new)) }
     ensures stops { IfErr result (StopsFrom learner.old settings.extra
         (answers_of (O.state oracle.new).kept)) }

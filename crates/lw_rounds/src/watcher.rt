@@ -11,6 +11,8 @@ pub enum Phase {
     Table,
     /// Words of the suite were settled.
     Suite,
+    /// Walks were settled, behind the suite.
+    Walks,
     /// A difference was analysed, and the learner refined by it.
     Analysis,
     /// A block of a tree's temporary nodes was settled.

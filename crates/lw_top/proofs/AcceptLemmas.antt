@@ -91,8 +91,8 @@ module _ (a : LearnValues) (before now : WorldState) (end : End) (run : IsLearnR
   Read = EndsRead a before.files now.files before.spawner now.spawner before.out now.out before.err run.told end
 
   module _ (r : Read) (l : Found) (c : Carries a.goal (Ok l) end) where
-    has : HasModel a.learner a.suite (length (letters_of r.system)) (length r.learned.naming.names) a.extra a.max_states end l.model
-    has = some_is (HasModel a.learner a.suite (length (letters_of r.system)) (length r.learned.naming.names) a.extra a.max_states end) end.model l.model c.0 r.learned.model
+    has : HasModel a.learner a.testing (length (letters_of r.system)) (length r.learned.naming.names) a.extra a.max_states end l.model
+    has = some_is (HasModel a.learner a.testing (length (letters_of r.system)) (length r.learned.naming.names) a.extra a.max_states end) end.model l.model c.0 r.learned.model
 
     over : AreOver l.model.inputs (answers_of end.kept.answers)
     over =
@@ -109,7 +109,7 @@ module _ (a : LearnValues) (before now : WorldState) (end : End) (run : IsLearnR
         (w.text_is (λ e. let wrong : Accepted count refinements ≡ NoMemory = sym is ∙ e in cc) (λ q x e. let wrong : Accepted count refinements ≡ NotAcceptor q x = sym is ∙ e in cc)) in
         let acceptor : NamedAcceptor = text.0 in
         let same : l.model ≡ viewed_machine (length acceptor.inputs) acceptor.automaton = sym w.mealy ∙ text.2.mealy in
-        let model = right a.learner a.suite (length (letters_of r.system)) (length r.learned.naming.names) a.extra a.max_states end l.model has in (
+        let model = right a.learner a.testing (length (letters_of r.system)) (length r.learned.naming.names) a.extra a.max_states end l.model has in (
           aimed.0,
           record {
             acceptor = acceptor;
@@ -134,7 +134,7 @@ module _ (a : LearnValues) (before now : WorldState) (end : End) (run : IsLearnR
         has.certified.inputs
         ∙ (ap (λ (n : List (List ℕ)). length n) (prior_letters a.prior before.files.holds r.task.between r.between r.task.read r.system r.prior r.task.answers ∙ letters.1.inputs)
         ∙ more letters.0) in
-        let model = right a.learner a.suite (length (letters_of r.system)) (length r.learned.naming.names) a.extra a.max_states end l.model has in (
+        let model = right a.learner a.testing (length (letters_of r.system)) (length r.learned.naming.names) a.extra a.max_states end l.model has in (
           aimed.0,
           record {
             model = l.model;

@@ -15,7 +15,8 @@ use Rattle.lw_log.specs.declared.log.LogState.TheVariants.{Closed, Open, Failed}
 use Rattle.lw_rounds.specs.Learner.{refinements_of}
 use Rattle.lw_rounds.specs.declared.learned.Learned.{Learned as Found}
 use Rattle.lw_rounds.specs.declared.learner.Kind.{Kind}
-use Rattle.lw_chunks.specs.declared.method.Method.{Method}
+use Rattle.lw_rounds.specs.declared.settings.Testing.{Testing}
+use Rattle.lw_rounds.specs.Plain.{by_suites}
 use Rattle.lw_rounds.specs.declared.stops.LearnStop.{LearnStop}
 use Rattle.lw_rounds.specs.declared.stops.LearnStop.TheVariants as learn
 use Rattle.lw_children.specs.Children.{IsOfCommand}
@@ -58,8 +59,8 @@ if_some P Q None each holds = tt
 if_some P Q (Some x) each holds = each x holds
 
 -- what is certified is right
-pub right : (kind : Kind) (method : Method) (a b k most : ℕ) (end : End) (h : MealyMachine) → HasModel kind method a b k most end h → ModelIsRight k (answers_of end.kept.answers) h
-right kind method a b k most end h has =
+pub right : (kind : Kind) (testing : Testing) (a b k most : ℕ) (end : End) (h : MealyMachine) → HasModel kind testing a b k most end h → ModelIsRight k (answers_of end.kept.answers) h
+right kind testing a b k most end h has =
     let c = has.certified in
     record {
       complete = c.complete;
@@ -266,7 +267,7 @@ module _ (a : LearnValues) (before now : WorldState) (end : End) (run : IsLearnR
       of_read : Read → HandsModel a.extra end
       of_read r = record {
         told = carried a.goal r.learned.learned end r.learned.told.told.carries;
-        right = if_some _ (ModelIsRight a.extra (answers_of end.kept.answers)) end.model (λ h has. right a.learner a.suite (length (letters_of r.system)) (length r.learned.naming.names) a.extra a.max_states end h has) r.learned.model;
+        right = if_some _ (ModelIsRight a.extra (answers_of end.kept.answers)) end.model (λ h has. right a.learner a.testing (length (letters_of r.system)) (length r.learned.naming.names) a.extra a.max_states end h has) r.learned.model;
       }
 
   keeps : KeepsLearned a before now end ⊎ AsksNothing a before now end
@@ -308,7 +309,7 @@ module _ (a : LearnValues) (before now : WorldState) (end : End) (run : IsLearnR
 tried : (v : _) (out_before out_now err_before err_now : SinkState) (end : End) → IsTrialRun v out_before out_now err_before err_now end → HandsModel 1 end
 tried v out_before out_now err_before err_now end run = record {
   told = λ h refinements is. absurd (subst IsTrialOutcome is run.kinds);
-  right = if_some _ (ModelIsRight 1 (answers_of end.kept.answers)) end.model (λ h has. right v.learner v.suite v.inputs 2 1 1024 end h has) run.model;
+  right = if_some _ (ModelIsRight 1 (answers_of end.kept.answers)) end.model (λ h has. right v.learner (by_suites v.suite) v.inputs 2 1 1024 end h has) run.model;
 }
 
 rechecked : (a : _) (f g : FilesState) (b z : SpawnerState) (o p e d : SinkState) (end : End) → IsRecheckRun a f g b z o p e d end → end.model ≡ None

@@ -7,6 +7,7 @@ use Rattle.lw_mealy.specs.Machine.{MealyMachine}
 use Rattle.lw_names.specs.Naming.{Naming}
 use Rattle.lw_workers.specs.Machines.{KeepsRuns}
 use Rattle.lw_rounds.specs.Learned.{IsReadOff}
+use Rattle.lw_rounds.specs.Plain.{by_suites}
 use Rattle.lw_rounds.specs.declared.learner.Learner.{Learner}
 use Rattle.lw_report.specs.Learnings.{HasModel}
 use Rattle.lw_outside.specs.Files.{FilesState}
@@ -40,7 +41,7 @@ wanted_trial v f o e d end out r =
     let part : (oc : Outcome) → oc ≡ NoMemory → TakesSome (said_text None None [] 0 oc) e.taken d.taken → TakesSome (said_text None None end.kept.answers 1 oc) e.taken d.taken = λ oc is t.
     subst (λ (x : Outcome). TakesSome (said_text None None end.kept.answers 1 x) e.taken d.taken) (sym is) (subst (λ (x : Outcome). TakesSome (said_text None None [] 0 x) e.taken d.taken) is t) in
     record {
-      model = subst (λ (m : Option MealyMachine). IfSome m (HasModel v.learner v.suite v.inputs 2 1 1024 end)) (sym r.model) tt;
+      model = subst (λ (m : Option MealyMachine). IfSome m (HasModel v.learner (by_suites v.suite) v.inputs 2 1 1024 end)) (sym r.model) tt;
       read_off = subst (λ (m : Option MealyMachine). IfSome m (λ h. (l : Learner) × (end.learner ≡ Some l) × IsReadOff v.learner v.inputs 2 1024 (answers_of end.kept.answers) h.rows l)) (sym r.model) tt;
       without = λ _. r.learner;
       told = λ t is. let wrong : NoMemory ≡ Trial t = sym out ∙ is in absurd (cc);

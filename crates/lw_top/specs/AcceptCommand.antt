@@ -6,11 +6,11 @@ use Rattle.lw_chunks.specs.declared.method.Method.TheVariants.{W}
 use Rattle.lw_learn.specs.Arguments.{LearnValues}
 use Rattle.lw_system.specs.declared.goal.Goal.TheVariants.{Acceptor}
 use Rattle.lw_top.specs.CommandLine.{app_by, values_taken}
-use Rattle.lw_top.specs.Syntaxes.{SyntaxValues, Text, entry, extra_entry, kept_entry, learner_entry, length_entry, log_entry, random_entry, seed_entry, setup_entry, states_entry, words_entry, workers_entry}
+use Rattle.lw_top.specs.Syntaxes.{SyntaxValues, Text, entry, extra_entry, kept_entry, learner_entry, length_entry, log_entry, random_entry, seed_entry, setup_entry, states_entry, walks_entry, words_entry, workers_entry}
 use Rattle.lw_top.specs.LearnCommand.{LearnFileNames, drawn_in, learn_values_from, settings_by, source_in}
 
 -- accept (SETUP | --table FILE) [--workers N] [--extra K] [--learner table|ttt] [--max-states N] [--model FILE] [--kept FILE] [--words FILE]
--- [--random R --length L --seed S] [--log FILE]
+-- [[--random R] [--walks N] --length L --seed S] [--log FILE]
 abbrev pub accept_syntax : SyntaxValues
 accept_syntax = record {
   command = codes "accept";
@@ -26,6 +26,7 @@ accept_syntax = record {
       ∷ kept_entry
       ∷ words_entry
       ∷ random_entry
+      ∷ walks_entry
       ∷ length_entry
       ∷ seed_entry
       ∷ log_entry
@@ -34,6 +35,8 @@ accept_syntax = record {
   takes_more = false;
   in_place = codes "table" ∷ [];
   together = codes "random" ∷ codes "length" ∷ codes "seed" ∷ [];
+  instead = codes "walks" ∷ codes "length" ∷ codes "seed" ∷ [];
+  either = codes "random or --walks" ∷ codes "length" ∷ codes "seed" ∷ [];
 }
 
 -- as clap sees it

@@ -24,6 +24,8 @@ ask_syntax = record {
   takes_more = true;
   in_place = codes "table" ∷ codes "accept" ∷ codes "acceptor" ∷ [];
   together = [];
+  instead = [];
+  either = [];
 }
 
 -- as clap sees it

@@ -38,6 +38,8 @@ check_syntax = record {
   takes_more = false;
   in_place = codes "acceptor" ∷ [];
   together = [];
+  instead = [];
+  either = [];
 }
 
 -- as clap sees it

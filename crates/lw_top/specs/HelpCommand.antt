@@ -29,6 +29,8 @@ help_syntax = record {
   takes_more = false;
   in_place = [];
   together = [];
+  instead = [];
+  either = [];
 }
 
 -- as clap sees it

@@ -5,18 +5,19 @@ use Rattle.lw_rounds.specs.declared.learner.Kind.{Kind}
 use Rattle.lw_rounds.specs.declared.settings.Settings.{Settings}
 use Rattle.lw_chunks.specs.declared.method.Method.{Method}
 use Rattle.lw_learn.specs.Arguments.{LearnValues}
-use Rattle.lw_learn.specs.declared.arguments.Drawn.{Drawn}
+use Rattle.lw_draw.specs.declared.drawing.Drawn.{Drawn}
 use Rattle.lw_learn.specs.declared.arguments.LearnFiles.{LearnFiles}
+use Rattle.lw_top.specs.declared.arguments.learn.Draws.{Draws}
 use Rattle.lw_system.specs.declared.goal.Goal.{Goal}
 use Rattle.lw_system.specs.declared.goal.Goal.TheVariants.{Machine}
 use Rattle.lw_system.specs.declared.source.Source.{Source}
 use Rattle.lw_system.specs.declared.source.Source.TheVariants.{Setup, Table}
 use Rattle.lw_top.specs.CommandLine.{app_by, kind_named, method_named, number_given, values_taken}
-use Rattle.lw_top.specs.Syntaxes.{SyntaxValues, Text, entry, extra_entry, kept_entry, learner_entry, length_entry, log_entry, model_entry, random_entry, seed_entry, setup_entry, states_entry, suite_entry, table_entry, words_entry, workers_entry}
+use Rattle.lw_top.specs.Syntaxes.{SyntaxValues, Text, entry, extra_entry, kept_entry, learner_entry, length_entry, log_entry, model_entry, random_entry, seed_entry, setup_entry, states_entry, suite_entry, table_entry, walks_entry, words_entry, workers_entry}
 use Rattle.lw_top.specs.declared.ranges.TheConstants.{EXTRA, LENGTH, RANDOM, SEED, STATES, WORKERS}
 
 -- learn (SETUP | --table FILE) [--workers N] [--extra K] [--learner table|ttt] [--max-states N] [--model FILE] [--answers FILE] [--prior FILE]
--- [--kept FILE] [--words FILE] [--random R --length L --seed S] [--log FILE] [--suite w|wp|h]
+-- [--kept FILE] [--words FILE] [[--random R] [--walks N] --length L --seed S] [--log FILE] [--suite w|wp|h]
 abbrev pub learn_syntax : SyntaxValues
 learn_syntax = record {
   command = codes "learn";
@@ -34,6 +35,7 @@ learn_syntax = record {
       ∷ kept_entry
       ∷ words_entry
       ∷ random_entry
+      ∷ walks_entry
       ∷ length_entry
       ∷ seed_entry
       ∷ log_entry
@@ -43,6 +45,8 @@ learn_syntax = record {
   takes_more = false;
   in_place = codes "table" ∷ [];
   together = codes "random" ∷ codes "length" ∷ codes "seed" ∷ [];
+  instead = codes "walks" ∷ codes "length" ∷ codes "seed" ∷ [];
+  either = codes "random or --walks" ∷ codes "length" ∷ codes "seed" ∷ [];
 }
 
 -- as clap sees it
@@ -59,14 +63,29 @@ source_from None None = None
 abbrev pub source_in : List Row → Option (Source × List ℕ)
 source_in rows = source_from (first_of (codes "setup") rows) (first_of (codes "table") rows)
 
--- the words that are to be drawn: all of their numbers are given, or none of them
-abbrev pub drawn_from : (count length seed : Option ℕ) → Option (Option Drawn)
-drawn_from None None None = Some None
-drawn_from (Some count) (Some length) (Some seed) = Some (Some (record { count = count; length = length; seed = seed }))
-drawn_from _ _ _ = None
+-- so many words, if some are to be drawn
+abbrev pub drawn_by : (length seed : ℕ) → Option ℕ → Option Drawn
+drawn_by length seed None = None
+drawn_by length seed (Some count) = Some (record { count = count; length = length; seed = seed })
 
-abbrev pub drawn_in : List Row → Option (Option Drawn)
-drawn_in rows = drawn_from (number_given (codes "random") RANDOM rows) (number_given (codes "length") LENGTH rows) (number_given (codes "seed") SEED rows)
+-- the words that are to be drawn to be asked first, and the walks behind the suites
+pub record DrawValues : Type 0 where
+  pub words : Option Drawn
+  pub walks : Option Drawn
+
+abbrev pub draw_values : Draws → DrawValues
+draw_values d = record { words = d.words; walks = d.walks }
+
+-- neither, where none of their numbers is given; else words or walks or both, with how many letters are drawn for each and a seed
+abbrev pub drawn_from : (words walks length seed : Option ℕ) → Option DrawValues
+drawn_from None None None None = Some (record { words = None; walks = None })
+drawn_from None None _ _ = None
+drawn_from words walks (Some length) (Some seed) = Some (record { words = drawn_by length seed words; walks = drawn_by length seed walks })
+drawn_from _ _ _ _ = None
+
+abbrev pub drawn_in : List Row → Option DrawValues
+drawn_in rows =
+    drawn_from (number_given (codes "random") RANDOM rows) (number_given (codes "walks") RANDOM rows) (number_given (codes "length") LENGTH rows) (number_given (codes "seed") SEED rows)
 
 -- the settings of the learning
 pub record SettingValues : Type 0 where
@@ -77,7 +96,7 @@ pub record SettingValues : Type 0 where
   pub suite : Method
 
 abbrev pub setting_values : Settings → SettingValues
-setting_values s = record { workers = s.workers; extra = s.extra; learner = s.kind; max_states = s.max_states; suite = s.suite }
+setting_values s = record { workers = s.workers; extra = s.extra; learner = s.kind; max_states = s.max_states; suite = s.testing.suite }
 
 -- these settings, where the numbers are in their ranges, the learner is of a kind, and suites are made by a method
 abbrev pub settings_from : (workers extra : Option ℕ) → Option Kind → (max_states : Option ℕ) → Option Method → Option SettingValues
@@ -126,7 +145,7 @@ files_in rows = record {
 }
 
 -- the values of what is learned, where the system's file is named and all else is there
-abbrev pub learn_values_from : Goal → Option (Source × List ℕ) → Option SettingValues → Option (Option Drawn) → LearnFileNames → Option LearnValues
+abbrev pub learn_values_from : Goal → Option (Source × List ℕ) → Option SettingValues → Option DrawValues → LearnFileNames → Option LearnValues
 learn_values_from goal None settings drawn files = None
 learn_values_from goal (Some system) None drawn files = None
 learn_values_from goal (Some system) (Some settings) None files = None
@@ -140,13 +159,13 @@ learn_values_from goal (Some system) (Some settings) (Some drawn) files =
       extra = settings.extra;
       learner = settings.learner;
       max_states = settings.max_states;
-      suite = settings.suite;
+      testing = record { suite = settings.suite; walks = drawn.walks };
       model = files.model;
       answers = files.answers;
       prior = files.prior;
       kept = files.kept;
       words = files.words;
-      drawn = drawn;
+      drawn = drawn.words;
       log = files.log;
     })
 

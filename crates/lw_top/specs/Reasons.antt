@@ -146,6 +146,15 @@ needs None missing = None
 needs (Some first) [] = None
 needs (Some first) (o ∷ os) = Some (codes "--" ++ (first ++ (codes " needs --" ++ (o ++ flat_map (λ p. codes " and --" ++ p) os))))
 
+-- the first of some options is given
+abbrev pub starts : List GivenValues → List (List ℕ) → Bool
+starts given [] = false
+starts given (o ∷ os) = is_given given o
+
+-- which options they are
+abbrev pub together_of : SyntaxValues → List GivenValues → List (List ℕ)
+together_of s given = if starts given s.instead then s.instead else if starts given s.together then s.together else s.either
+
 abbrev pub together_reason : List (List ℕ) → List GivenValues → Option (List ℕ)
 together_reason together given = needs (find (is_given given) together) (filter (λ o. not (is_given given o)) together)
 
@@ -170,7 +179,7 @@ reason_by s given =
     or_text
     (or_else (first_told (given_reason s) given)
     (or_else (first_told (entry_reason given) s.entries)
-    (or_else (text_reason s (length (filter (is_given given) s.in_place)) (texts_given given)) (together_reason s.together given))))
+    (or_else (text_reason s (length (filter (is_given given) s.in_place)) (texts_given given)) (together_reason (together_of s given) given))))
     (left_reason s (texts_given given))
 
 -- of a command that isn't known

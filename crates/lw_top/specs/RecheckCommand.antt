@@ -18,6 +18,8 @@ recheck_syntax = record {
   takes_more = false;
   in_place = [];
   together = [];
+  instead = [];
+  either = [];
 }
 
 -- as clap sees it

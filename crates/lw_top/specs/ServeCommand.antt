@@ -16,6 +16,8 @@ serve_syntax = record {
   takes_more = false;
   in_place = [];
   together = [];
+  instead = [];
+  either = [];
 }
 
 -- as clap sees it

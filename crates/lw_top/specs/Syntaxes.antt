@@ -26,7 +26,8 @@ pub record EntryValues : Type 0 where
   pub about : List ℕ
 
 -- a command: its name, what it does, and its arguments; what the texts without a name of an option are, and whether more may
--- follow; the options of which one may be in place of the first text, and those that are given all or none
+-- follow; the options of which one may be in place of the first text; those that are given all or none, the same for another first
+-- option, where that one is given, and the same where neither is, with what is told in place of the two names
 pub record SyntaxValues : Type 0 where
   pub command : List ℕ
   pub about : List ℕ
@@ -35,6 +36,8 @@ pub record SyntaxValues : Type 0 where
   pub takes_more : Bool
   pub in_place : List (List ℕ)
   pub together : List (List ℕ)
+  pub instead : List (List ℕ)
+  pub either : List (List ℕ)
 
 abbrev pub entry : ArgumentValues → List ℕ → List ℕ → EntryValues
 entry argument value about = record { argument = argument; value = value; about = about }
@@ -62,6 +65,8 @@ syntax_values s = record {
   takes_more = s.takes_more;
   in_place = map (λ o. o.now) s.in_place.now;
   together = map (λ o. o.now) s.together.now;
+  instead = map (λ o. o.now) s.instead.now;
+  either = map (λ o. o.now) s.either.now;
 }
 
 -- the name of an option
@@ -114,11 +119,14 @@ words_entry = entry (Text (codes "words")) (codes "FILE") (codes "words that are
 abbrev pub random_entry : EntryValues
 random_entry = entry (Number (codes "random") RANDOM) (codes "R") (codes "how many words are drawn and asked first; with --length and --seed")
 
+abbrev pub walks_entry : EntryValues
+walks_entry = entry (Number (codes "walks") RANDOM) (codes "N") (codes "how many walks are drawn behind the suite of each model; with --length and --seed")
+
 abbrev pub length_entry : EntryValues
-length_entry = entry (Number (codes "length") LENGTH) (codes "L") (codes "how many letters each of these has; with --random and --seed")
+length_entry = entry (Number (codes "length") LENGTH) (codes "L") (codes "how many letters are drawn for each; with --seed and --random or --walks")
 
 abbrev pub seed_entry : EntryValues
-seed_entry = entry (Number (codes "seed") SEED) (codes "S") (codes "what their drawing begins with; with --random and --length")
+seed_entry = entry (Number (codes "seed") SEED) (codes "S") (codes "what the drawing begins with; with --length and --random or --walks")
 
 abbrev pub log_entry : EntryValues
 log_entry = entry (Text (codes "log")) (codes "FILE") (codes "where each step is logged")

@@ -25,6 +25,8 @@ trial_syntax = record {
   takes_more = false;
   in_place = [];
   together = [];
+  instead = [];
+  either = [];
 }
 
 -- as clap sees it

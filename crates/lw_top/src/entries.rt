@@ -68,16 +68,22 @@ pub(crate) const RANDOM_ENTRY: Entry = Entry {
     about: "how many words are drawn and asked first; with --length and --seed",
 };
 
+pub(crate) const WALKS: Entry = Entry {
+    argument: Argument::Number("walks", RANDOM),
+    value: "N",
+    about: "how many walks are drawn behind the suite of each model; with --length and --seed",
+};
+
 pub(crate) const LENGTH_ENTRY: Entry = Entry {
     argument: Argument::Number("length", LENGTH),
     value: "L",
-    about: "how many letters each of these has; with --random and --seed",
+    about: "how many letters are drawn for each; with --seed and --random or --walks",
 };
 
 pub(crate) const SEED_ENTRY: Entry = Entry {
     argument: Argument::Number("seed", SEED),
     value: "S",
-    about: "what their drawing begins with; with --random and --length",
+    about: "what the drawing begins with; with --length and --random or --walks",
 };
 
 pub(crate) const LOG: Entry = Entry {

@@ -79,6 +79,10 @@ pub(crate) struct Syntax {
     pub(crate) in_place: &'static [&'static str],
     /// The options that are given all or none.
     pub(crate) together: &'static [&'static str],
+    /// The same for another first option, where that one is given.
+    pub(crate) instead: &'static [&'static str],
+    /// The same where neither first option is given: in place of their names what is told of them.
+    pub(crate) either: &'static [&'static str],
 }
 
 /// An argument as clap takes it.

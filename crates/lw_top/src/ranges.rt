@@ -26,7 +26,7 @@ pub(crate) const RANDOM: Range = Range {
     high: 1_000_000,
 };
 
-/// How many letters a word that is drawn has.
+/// How many letters are drawn for a word.
 pub(crate) const LENGTH: Range = Range {
     low: 0,
     high: 65_536,

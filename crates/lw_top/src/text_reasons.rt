@@ -2,7 +2,7 @@
 ghost use Rattle.std.specs.Prelude.{◌≡◌, ◌++◌, codes, drop, filter, find, IfOk, OnOk, Some, length, map, not, option_map, string_bytes};
 ghost use Rattle.std.specs.List.{flat_map};
 ghost use Rattle.lw_top.specs.Given.{given_values};
-ghost use Rattle.lw_top.specs.Reasons.{is_given, is_unsettled, left_reason, missing_text, more_text, needs, reason_by, text_reason, texts_given, together_reason, unknown_topic, wanted_by};
+ghost use Rattle.lw_top.specs.Reasons.{is_given, is_unsettled, left_reason, missing_text, more_text, needs, reason_by, starts, text_reason, texts_given, together_of, together_reason, unknown_topic, wanted_by};
 ghost use Rattle.lw_top.specs.Syntaxes.{syntax_values};
 
 use crate::given::Given;
@@ -228,6 +228,30 @@ pub(crate) fn together_reason(
     needs(alloc, first, &missing)
 }
 
+/// Whether the first of some options is given.
+fn starts(given: &[Given], names: &[&str]) -> bool
+    ensures { result ≡ starts (map given_values given.now) (map (λ n. n.now) names.now) }
+{
+    match names.first() {
+        Some(name) => is_given(given, name),
+        None => false,
+    }
+}
+
+/// The options that are given all or none.
+fn together_of(syntax: &Syntax, given: &[Given]) -> &'static [&'static str]
+    ensures { map (λ o. o.now) result.now ≡
+        together_of (syntax_values syntax.now) (map given_values given.now) }
+{
+    if starts(given, syntax.instead) {
+        return syntax.instead;
+    }
+    if starts(given, syntax.together) {
+        return syntax.together;
+    }
+    syntax.either
+}
+
 /// That a command doesn't take the arguments.
 fn untaken(alloc: Global, syntax: &Syntax) -> Result<String, AllocError>
     ensures { IfOk result (λ t. string_bytes t ≡
@@ -277,7 +301,7 @@ pub(crate) fn reason_by(
     if let Some(reason) = text_reason(alloc, syntax, count_given(given, syntax.in_place), &texts)? {
         return Ok(reason);
     }
-    if let Some(reason) = together_reason(alloc, syntax.together, given)? {
+    if let Some(reason) = together_reason(alloc, together_of(syntax, given), given)? {
         return Ok(reason);
     }
     left_reason(alloc, syntax, &texts)

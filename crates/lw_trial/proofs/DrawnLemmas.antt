@@ -7,8 +7,8 @@ use Rattle.std.proofs.lemmas.List.FromFn.{length-range_with_len, map-range_with_
 use Rattle.std.proofs.lemmas.List.Elements.{All-from_get_or}
 use Rattle.rand_pcg.specs.Lcg.{Lcg}
 use Rattle.lw_mealy.specs.Machine.{IsWithinLimits, mealy_of, Row, Rows}
-use Rattle.lw_wordlist.specs.Drawn.{after_draws, draw_at, seeded}
-use Rattle.lw_wordlist.proofs.DrawLemmas.{draw_then, draws_then}
+use Rattle.lw_draw.specs.Drawn.{after_draws, draw_at, seeded}
+use Rattle.lw_draw.proofs.DrawLemmas.{draw_then, draws_then}
 use Rattle.lw_trial.specs.Drawn.{drawn_cell, words_before, drawn_row, drawn_rows}
 
 -- the cell of a further letter

@@ -9,7 +9,8 @@ use Rattle.lw_words.specs.declared.kept.KeptAnswer.{KeptAnswer}
 use Rattle.lw_mealy.specs.Machine.{Gives, MealyMachine, IsWithinLimits, Rows, IsMachine}
 use Rattle.lw_cache.proofs.CrowdLemmas.{crowd_needs_states}
 use Rattle.lw_chunks.specs.Size.{suite_size, greatest_suite}
-use Rattle.lw_chunks.specs.declared.method.Method.{Method}
+use Rattle.lw_rounds.specs.Plain.{by_suites}
+use Rattle.lw_rounds.specs.declared.settings.Testing.{Testing}
 use Rattle.lw_rounds.specs.Learned.{IsEnoughFor, IsLearned, IsReadOff, StopsAs}
 use Rattle.lw_rounds.specs.Learner.{refinements_of}
 use Rattle.lw_rounds.specs.Stops.{IsOwnStop}
@@ -38,7 +39,7 @@ use Rattle.lw_report.specs.declared.stops.TellStop.{TellStop}
 use Rattle.lw_report.specs.declared.stops.TellStop.TheVariants as tell
 use Rattle.lw_report.proofs.LearningLemmas.{has_model, has_large_suite, own_ask}
 use Rattle.lw_trial.specs.Arguments.{TrialValues}
-use Rattle.lw_wordlist.specs.Drawn.{seeded}
+use Rattle.lw_draw.specs.Drawn.{seeded}
 use Rattle.lw_trial.specs.Drawn.{drawn_row}
 use Rattle.lw_trial.specs.TrialRun.{IsReachedTrial, IsTrial, IsTrialOutcome, IsTrialRun, IsTried, IsTriedPlainly, drawn_machine, drawn_naming}
 use Rattle.lw_trial.specs.bodies.Told.{IsToldOf}
@@ -129,7 +130,7 @@ refused_run : (v : TrialValues) (o e d : SinkState) (end : End) → end.model �
 refused_run v o e d end none learner outputs is =
     let no_trial : IsTrial end.outcome → ⊥ = bare_no_trial end.outcome is.bare in
     record {
-      model = subst (λ (m : Option MealyMachine). IfSome m (HasModel v.learner v.suite v.inputs 2 1 1024 end)) (sym none) tt;
+      model = subst (λ (m : Option MealyMachine). IfSome m (HasModel v.learner (by_suites v.suite) v.inputs 2 1 1024 end)) (sym none) tt;
       read_off = subst (λ (m : Option MealyMachine). IfSome m (λ h. (l : Learner) × (end.learner ≡ Some l) × IsReadOff v.learner v.inputs 2 1024 (answers_of end.kept.answers) h.rows l)) (sym none) tt;
       without = λ _. learner;
       told = λ t e. absurd (no_trial (subst IsTrial (sym e) tt));
@@ -173,18 +174,18 @@ pub few_refinements : (v : TrialValues) (kept : List KeptAnswer) (l : Learned) �
 few_refinements v kept l is small = learning_reached v kept (Ok l) is small
 
 -- what a learning came to by any machine that gives its answers, it came to by the drawn one
-pub plain_tried : (v : TrialValues) (kept : List KeptAnswer) (l : Learned) → HasCome (drawn_machine v) v.workers kept (Ok l) → RunsAsPlain v.learner v.suite v.inputs 1 1024 [] (Ok l) [] kept → IsTriedPlainly v l.model.rows (refinements_of l.learner) kept
-plain_tried v kept l is runs is_table by_w = runs is_table by_w refl (drawn_machine v).rows is.within.machine (all_given (drawn_machine v) v.workers kept is.runs)
+pub plain_tried : (v : TrialValues) (kept : List KeptAnswer) (l : Learned) → HasCome (drawn_machine v) v.workers kept (Ok l) → RunsAsPlain v.learner (by_suites v.suite) v.inputs 1 1024 [] (Ok l) [] kept → IsTriedPlainly v l.model.rows (refinements_of l.learner) kept
+plain_tried v kept l is runs is_table by_w = runs is_table (ap by_suites by_w) refl (drawn_machine v).rows is.within.machine (all_given (drawn_machine v) v.workers kept is.runs)
 
 -- the same under what the arguments say
-pub plain_drawn : (v : TrialValues) (of_kind : Kind) (suites : Method) (a : ℕ) (given : List (List ℕ)) (r : Result Learned LearnStop) (prior kept : List KeptAnswer) → of_kind ≡ v.learner → suites ≡ v.suite → a ≡ v.inputs → given ≡ [] → prior ≡ []
-    → RunsAsPlain of_kind suites a 1 1024 given r prior kept → RunsAsPlain v.learner v.suite v.inputs 1 1024 [] r [] kept
-plain_drawn v of_kind suites a given r prior kept same method letters none before runs =
-    subst (λ (x : Kind). RunsAsPlain x v.suite v.inputs 1 1024 [] r [] kept) same
-    (subst (λ (x : Method). RunsAsPlain of_kind x v.inputs 1 1024 [] r [] kept) method
-    (subst (λ (n : ℕ). RunsAsPlain of_kind suites n 1 1024 [] r [] kept) letters
-    (subst (λ (ws : List (List ℕ)). RunsAsPlain of_kind suites a 1 1024 ws r [] kept) none
-    (subst (λ (ks : List KeptAnswer). RunsAsPlain of_kind suites a 1 1024 given r ks kept) before runs))))
+pub plain_drawn : (v : TrialValues) (of_kind : Kind) (testing : Testing) (a : ℕ) (given : List (List ℕ)) (r : Result Learned LearnStop) (prior kept : List KeptAnswer) → of_kind ≡ v.learner → testing ≡ by_suites v.suite → a ≡ v.inputs → given ≡ [] → prior ≡ []
+    → RunsAsPlain of_kind testing a 1 1024 given r prior kept → RunsAsPlain v.learner (by_suites v.suite) v.inputs 1 1024 [] r [] kept
+plain_drawn v of_kind testing a given r prior kept same method letters none before runs =
+    subst (λ (x : Kind). RunsAsPlain x (by_suites v.suite) v.inputs 1 1024 [] r [] kept) same
+    (subst (λ (x : Testing). RunsAsPlain of_kind x v.inputs 1 1024 [] r [] kept) method
+    (subst (λ (n : ℕ). RunsAsPlain of_kind testing n 1 1024 [] r [] kept) letters
+    (subst (λ (ws : List (List ℕ)). RunsAsPlain of_kind testing a 1 1024 ws r [] kept) none
+    (subst (λ (ks : List KeptAnswer). RunsAsPlain of_kind testing a 1 1024 given r ks kept) before runs))))
 
 -- a call whose learning stopped
 pub stopped_run : (v : TrialValues) (o e d : SinkState) (end : End) (stop : LearnStop) (kept : List KeptAnswer) → HasCome (drawn_machine v) v.workers kept (Err stop) → end.kept.answers ≡ kept → end.model ≡ None → IsWithoutLearner end
@@ -212,7 +213,7 @@ pub record IsCarried (v : TrialValues) (end : End) (h : MealyMachine) (learner :
   pub outputs : end.outputs ≡ Some drawn_naming
   pub runs : KeepsRuns (drawn_machine v) v.workers [] kept
   pub learned : IsLearned v.learner v.inputs 2 1 1024 (answers_of kept) h learner
-  pub enough : IsEnoughFor v.suite v.inputs 1 (answers_of kept) h
+  pub enough : IsEnoughFor (by_suites v.suite) v.inputs 1 (answers_of kept) h
   pub plainly : IsTriedPlainly v h.rows (refinements_of learner) kept
   pub reached : suite_size v.states v.inputs 1 ≤ greatest_suite → refinements_of learner < v.states
 
@@ -220,11 +221,11 @@ module _ (v : TrialValues) (end : End) (h : MealyMachine) (learner : Learner) (k
   keeps_runs : KeepsRuns (drawn_machine v) v.workers [] end.kept.answers
   keeps_runs = subst (KeepsRuns (drawn_machine v) v.workers []) (sym is.keeps) is.runs
 
-  carries : IfSome end.model (HasModel v.learner v.suite v.inputs 2 1 1024 end)
+  carries : IfSome end.model (HasModel v.learner (by_suites v.suite) v.inputs 2 1 1024 end)
   carries =
-      let enough : IsEnoughFor v.suite v.inputs 1 (answers_of end.kept.answers) h = subst (λ (ks : List KeptAnswer). IsEnoughFor v.suite v.inputs 1 (answers_of ks) h) (sym is.keeps) is.enough in
+      let enough : IsEnoughFor (by_suites v.suite) v.inputs 1 (answers_of end.kept.answers) h = subst (λ (ks : List KeptAnswer). IsEnoughFor (by_suites v.suite) v.inputs 1 (answers_of ks) h) (sym is.keeps) is.enough in
       let learned : IsLearned v.learner v.inputs 2 1 1024 (answers_of end.kept.answers) h learner = subst (λ (ks : List KeptAnswer). IsLearned v.learner v.inputs 2 1 1024 (answers_of ks) h learner) (sym is.keeps) is.learned in
-      subst (λ (m : Option MealyMachine). IfSome m (HasModel v.learner v.suite v.inputs 2 1 1024 end)) (sym is.model) (has_model v.learner v.suite v.inputs 2 1 1024 end h learner keeps_runs.words learned enough is.carried is.counted)
+      subst (λ (m : Option MealyMachine). IfSome m (HasModel v.learner (by_suites v.suite) v.inputs 2 1 1024 end)) (sym is.model) (has_model v.learner (by_suites v.suite) v.inputs 2 1 1024 end h learner keeps_runs.words learned enough is.carried is.counted)
 
   reads_off : IfSome end.model (λ h. (l : Learner) × (end.learner ≡ Some l) × IsReadOff v.learner v.inputs 2 1024 (answers_of end.kept.answers) h.rows l)
   reads_off = subst (λ (m : Option MealyMachine). IfSome m (λ h. (l : Learner) × (end.learner ≡ Some l) × IsReadOff v.learner v.inputs 2 1024 (answers_of end.kept.answers) h.rows l)) (sym is.model) (learner, is.carried, subst (λ (ks : List KeptAnswer). IsReadOff v.learner v.inputs 2 1024 (answers_of ks) h.rows learner) (sym is.keeps) is.learned.carried)

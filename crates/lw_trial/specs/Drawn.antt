@@ -3,7 +3,7 @@ use Rattle.std.specs.Prelude.{ℕ, zero, suc, ◌+◌, ◌*◌, ◌-◌, ◌%◌
 use Rattle.std.specs.List.{range_with_len}
 use Rattle.rand_pcg.specs.Lcg.{Lcg}
 use Rattle.lw_mealy.specs.Machine.{Row, Rows}
-use Rattle.lw_wordlist.specs.Drawn.{after_draws, draw_at, seeded}
+use Rattle.lw_draw.specs.Drawn.{after_draws, draw_at, seeded}
 
 -- of n states, the target and the output of state q at a letter: letter 0 goes round, with output 1 at the last state alone; for
 -- each further letter a number says the target, and the next one the output

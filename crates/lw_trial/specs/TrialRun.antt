@@ -9,7 +9,7 @@ use Rattle.lw_chunks.specs.Size.{suite_size, greatest_suite}
 use Rattle.lw_chunks.specs.declared.method.Method.TheVariants as method
 use Rattle.lw_names.specs.Naming.{Naming}
 use Rattle.lw_rounds.specs.Learned.{IsReadOff}
-use Rattle.lw_rounds.specs.Plain.{plain_task}
+use Rattle.lw_rounds.specs.Plain.{by_suites, plain_task}
 use Rattle.lw_rounds.specs.declared.learner.Kind.TheVariants as kind
 use Rattle.lw_rounds.specs.declared.learner.Learner.{Learner}
 use Rattle.lw_workers.specs.Machines.{KeepsRuns}
@@ -75,7 +75,7 @@ IsTrial _ = ⊥
 -- a call with these arguments changed `out` and `err` so, and came to the end
 pub record IsTrialRun (v : TrialValues) (out_before out_now : SinkState) (err_before err_now : SinkState) (end : End) : Type 0 where
   -- the model of the machine that was drawn, with one extra state and at most 1,024 states
-  pub model : IfSome end.model (HasModel v.learner v.suite v.inputs 2 1 1024 end)
+  pub model : IfSome end.model (HasModel v.learner (by_suites v.suite) v.inputs 2 1 1024 end)
   -- no output has another number since: the model is the canonical form of the carried learner's machine
   pub read_off : IfSome end.model (λ h. (l : Learner) × (end.learner ≡ Some l) ×
       IsReadOff v.learner v.inputs 2 1024 (answers_of end.kept.answers) h.rows l)

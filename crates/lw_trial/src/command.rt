@@ -4,6 +4,7 @@ ghost use Rattle.lw_words.specs.Word.{answers_of};
 ghost use Rattle.lw_mealy.specs.Machine.{IsWithinLimits};
 ghost use Rattle.lw_rounds.specs.Learned.{IsEnoughFor, IsLearned};
 ghost use Rattle.lw_rounds.specs.Learner.{refinements_of};
+ghost use Rattle.lw_rounds.specs.Plain.{by_suites};
 ghost use Rattle.lw_chunks.specs.Size.{suite_size, greatest_suite};
 ghost use Rattle.lw_workers.specs.Machines.{KeepsRuns};
 ghost use Rattle.lw_report.specs.Outcomes.{status_of};
@@ -16,7 +17,7 @@ use lw_mealy::Mealy;
 use lw_names::OutNames;
 use lw_outside::Sink;
 use lw_report::{End, Outcome, UNSAID, learn_outcome, refuse, say};
-use lw_rounds::{Learned, Settings, Unwatched};
+use lw_rounds::{Learned, Settings, Testing, Unwatched};
 use lw_words::{Kept, Names, NoMemory, Words};
 use lw_workers::{LearningOutcome, Start, learn_machine};
 use std::alloc::Global;
@@ -87,7 +88,7 @@ fn report<O: Sink, E: Sink>(
     requires machine { drawn.now.machine ≡ drawn_machine arguments.now }
     requires learned { IsLearned arguments.now.learner arguments.now.inputs 2 1 1024
         (answers_of found.kept.answers) found.learned.model found.learned.learner }
-    requires enough { IsEnoughFor arguments.now.suite arguments.now.inputs 1
+    requires enough { IsEnoughFor (by_suites arguments.now.suite) arguments.now.inputs 1
         (answers_of found.kept.answers) found.learned.model }
     requires kept { KeepsRuns (drawn_machine arguments.now) arguments.now.workers []
         found.kept.answers }
@@ -154,7 +155,7 @@ fn learn<R: Threads + Wait + Sync + Drop, O: Sink, E: Sink>(
         kind: arguments.learner(),
         extra: EXTRA,
         max_states: MOST_STATES,
-        suite: arguments.suite(),
+        testing: Testing::by(arguments.suite()),
     };
     let LearningOutcome {
         learned,

@@ -2,11 +2,11 @@
 ghost use Rattle.std.specs.Prelude.{◌≡◌, ℕ, ◌+◌, ◌*◌, ◌-◌, ◌%◌, ◌<◌, ◌≤◌, map, nat_eq, if◌then◌else◌, IfOk, OnOk};
 ghost use Rattle.std.specs.List.{range_with_len};
 ghost use Rattle.lw_mealy.specs.Machine.{mealy_of};
-ghost use Rattle.lw_wordlist.specs.Drawn.{after_draws, draw_at};
+ghost use Rattle.lw_draw.specs.Drawn.{after_draws, draw_at};
 ghost use Rattle.lw_trial.specs.Drawn.{drawn_cell, drawn_rows};
 
+use lw_draw::Generator;
 use lw_mealy::Mealy;
-use lw_wordlist::Generator;
 use lw_words::NoMemory;
 use std::alloc::Global;
 

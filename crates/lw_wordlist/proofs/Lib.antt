@@ -1,3 +1,2 @@
-pub mod DrawLemmas
 pub mod LineLemmas
 pub mod WordLemmas

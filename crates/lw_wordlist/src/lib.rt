@@ -1,12 +1,8 @@
-//! Words as texts, and words that are drawn by a number.
+//! Words as texts: the names of their letters.
 #![tactic(auto)]
 
-mod drawing;
-mod generator;
 mod lines;
 mod words;
 
-pub use drawing::draw_words;
-pub use generator::Generator;
 pub use lines::read_lines;
 pub use words::{WordStop, read_words};

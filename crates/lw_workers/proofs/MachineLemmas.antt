@@ -15,7 +15,7 @@ use Rattle.lw_cache.proofs.ClashLemmas.{given_never_clash}
 use Rattle.lw_names.specs.Naming.{Naming}
 use Rattle.lw_pool.specs.Pool.{Member, PoolState, IsStopOf, seen_at, seen_of}
 use Rattle.lw_pool.specs.Sharing.{oracle_of}
-use Rattle.lw_chunks.specs.declared.method.Method.{Method}
+use Rattle.lw_rounds.specs.declared.settings.Testing.{Testing}
 use Rattle.lw_rounds.specs.Laws.{ModelIsLeast, TooManyIsNone, TooLargeForAll}
 use Rattle.lw_rounds.specs.Learned.{IsEnoughFor, IsLearned, StopsAs}
 use Rattle.lw_rounds.specs.Stops.{learn_stop, IsOwnStop}
@@ -77,8 +77,8 @@ reached kind a b k most ks (Err (learn.TooLarge model number)) least none large 
     omega (arith, large a b k most ks model number are stops m within.machine gives, within.small)
 
 -- answers that are enough are so under other names for the number of letters and for what is kept
-pub enough_as : (method : Method) (a b k : ℕ) (one two : List KeptAnswer) (r : Result Learned LearnStop) → a ≡ b → one ≡ two → IfOk r (λ l. IsEnoughFor method a k (answers_of one) l.model) → IfOk r (λ l. IsEnoughFor method b k (answers_of two) l.model)
-enough_as method a b k one two r inputs kept enough = subst₂ (λ (n : ℕ) (ks : List KeptAnswer). IfOk r (λ l. IsEnoughFor method n k (answers_of ks) l.model)) inputs kept enough
+pub enough_as : (testing : Testing) (a b k : ℕ) (one two : List KeptAnswer) (r : Result Learned LearnStop) → a ≡ b → one ≡ two → IfOk r (λ l. IsEnoughFor testing a k (answers_of one) l.model) → IfOk r (λ l. IsEnoughFor testing b k (answers_of two) l.model)
+enough_as testing a b k one two r inputs kept enough = subst₂ (λ (n : ℕ) (ks : List KeptAnswer). IfOk r (λ l. IsEnoughFor testing n k (answers_of ks) l.model)) inputs kept enough
 
 -- what a learning of a machine answers, and what its instances answered
 pub record HasEnded (kind : Kind) (t : MealyMachine) (workers k most : ℕ) (prior : List KeptAnswer) (learned : Result Learned LearnStop) (kept : List KeptAnswer) : Type 0 where

@@ -4,7 +4,7 @@ use Rattle.lw_words.specs.Word.{answers_of}
 use Rattle.lw_words.specs.declared.kept.KeptAnswer.{KeptAnswer}
 use Rattle.lw_mealy.specs.Machine.{Rows}
 use Rattle.lw_cache.specs.Settling.{OracleState}
-use Rattle.lw_chunks.specs.declared.method.Method.{Method}
+use Rattle.lw_rounds.specs.declared.settings.Testing.{Testing}
 use Rattle.lw_plain.specs.Ends.{Learned as PlainLearned}
 use Rattle.lw_plain.specs.Known.{KnowsWords}
 use Rattle.lw_plain.specs.Table.{unless_empty}
@@ -33,12 +33,12 @@ some_given [] o n some asks m plain = absurd (some refl)
 some_given (w ∷ ws) o n some asks m plain = asks m [] plain
 
 -- a learning behind them
-pub learns_given : (of_kind : Kind) (suites : Method) (a c k most : ℕ) (given : List (List ℕ)) (o b n : OracleState) (gained : List KeptAnswer) → c ≡ a → AsksGiven given o b → b.exact ≡ o.exact → n.kept ≡ b.kept ++ gained
-    → (r : Result Learned LearnStop) → IfOk r (λ l. LearnsAsPlain of_kind suites c k most l.model.rows (refinements_of l.learner) b n) → IfOk r (λ l. LearnsGiven of_kind suites a k most given l.model.rows (refinements_of l.learner) o n)
-learns_given of_kind suites a c k most given o b n gained same asks exact came (Err stop) learns = tt
-learns_given of_kind suites a c k most given o b n gained same asks exact came (Ok l) learns = λ is_table by_w m plain.
+pub learns_given : (of_kind : Kind) (testing : Testing) (a c k most : ℕ) (given : List (List ℕ)) (o b n : OracleState) (gained : List KeptAnswer) → c ≡ a → AsksGiven given o b → b.exact ≡ o.exact → n.kept ≡ b.kept ++ gained
+    → (r : Result Learned LearnStop) → IfOk r (λ l. LearnsAsPlain of_kind testing c k most l.model.rows (refinements_of l.learner) b n) → IfOk r (λ l. LearnsGiven of_kind testing a k most given l.model.rows (refinements_of l.learner) o n)
+learns_given of_kind testing a c k most given o b n gained same asks exact came (Err stop) learns = tt
+learns_given of_kind testing a c k most given o b n gained same asks exact came (Ok l) learns = λ is_table by_w m plain.
     let first = asks m (plain_first m [] o b n gained came plain) in
-    let then = subst (λ (x : ℕ). LearnsAsPlain of_kind suites x k most l.model.rows (refinements_of l.learner) b n) same learns is_table by_w m given (plain_next m [] (unless_empty given) o b n exact first plain) in
+    let then = subst (λ (x : ℕ). LearnsAsPlain of_kind testing x k most l.model.rows (refinements_of l.learner) b n) same learns is_table by_w m given (plain_next m [] (unless_empty given) o b n exact first plain) in
     record {
       batches = then.batches;
       learns = then.learns;
@@ -53,29 +53,29 @@ taken_all m batches was is none asks =
     (subst (λ (ks : List KeptAnswer). AreTakenInTurn [] asks.more (map (λ (k : KeptAnswer). k.word) ks)) (sym kept) asks.taken)
 
 -- of a pool
-pub runs_as_plain : {S : Type 0} (of_kind : Kind) (suites : Method) (a k most : ℕ) (given : List (List ℕ)) (before now : PoolState S) (r : Result Learned LearnStop)
-    → IfOk r (λ l. LearnsGiven of_kind suites a k most given l.model.rows (refinements_of l.learner) (oracle_of before) (oracle_of now)) → RunsAsPlain of_kind suites a k most given r before.kept now.kept
-runs_as_plain of_kind suites a k most given before now (Err stop) learns is_table by_w none m machine gives = tt
-runs_as_plain of_kind suites a k most given before now (Ok l) learns is_table by_w none m machine gives =
+pub runs_as_plain : {S : Type 0} (of_kind : Kind) (testing : Testing) (a k most : ℕ) (given : List (List ℕ)) (before now : PoolState S) (r : Result Learned LearnStop)
+    → IfOk r (λ l. LearnsGiven of_kind testing a k most given l.model.rows (refinements_of l.learner) (oracle_of before) (oracle_of now)) → RunsAsPlain of_kind testing a k most given r before.kept now.kept
+runs_as_plain of_kind testing a k most given before now (Err stop) learns is_table by_w none m machine gives = tt
+runs_as_plain of_kind testing a k most given before now (Ok l) learns is_table by_w none m machine gives =
     let knows : KnowsWords m [] (answers_of before.kept) = subst (λ (ks : List KeptAnswer). KnowsWords m [] (answers_of ks)) (sym none) (nothing_known m) in
     let learned = learns is_table by_w m (record { exact = refl; knows = knows; gives = gives }) in
     record { batches = learned.batches; learns = learned.learns; taken = taken_all m learned.batches before.kept now.kept none learned.asks }
 
 -- nothing was learned
-pub none_learned : (of_kind : Kind) (suites : Method) (a k most : ℕ) (given : List (List ℕ)) (stop : LearnStop) (prior kept : List KeptAnswer) → RunsAsPlain of_kind suites a k most given (Err stop) prior kept
-none_learned of_kind suites a k most given stop prior kept is_table by_w none m machine gives = tt
+pub none_learned : (of_kind : Kind) (testing : Testing) (a k most : ℕ) (given : List (List ℕ)) (stop : LearnStop) (prior kept : List KeptAnswer) → RunsAsPlain of_kind testing a k most given (Err stop) prior kept
+none_learned of_kind testing a k most given stop prior kept is_table by_w none m machine gives = tt
 
-pub plain_never : (of_kind : Kind) (suites : Method) (a k most : ℕ) (given : List (List ℕ)) (r : Result Learned LearnStop) (stop : LearnStop) (prior kept : List KeptAnswer) → r ≡ Err stop → RunsAsPlain of_kind suites a k most given r prior kept
-plain_never of_kind suites a k most given r stop prior kept is = subst (λ (x : Result Learned LearnStop). RunsAsPlain of_kind suites a k most given x prior kept) (sym is) (none_learned of_kind suites a k most given stop prior kept)
+pub plain_never : (of_kind : Kind) (testing : Testing) (a k most : ℕ) (given : List (List ℕ)) (r : Result Learned LearnStop) (stop : LearnStop) (prior kept : List KeptAnswer) → r ≡ Err stop → RunsAsPlain of_kind testing a k most given r prior kept
+plain_never of_kind testing a k most given r stop prior kept is = subst (λ (x : Result Learned LearnStop). RunsAsPlain of_kind testing a k most given x prior kept) (sym is) (none_learned of_kind testing a k most given stop prior kept)
 
 -- under other names for the letters, the words and what is kept
-pub runs_as : (of_kind : Kind) (suites : Method) (a b k most : ℕ) (given words : List (List ℕ)) (r : Result Learned LearnStop) (prior was kept is : List KeptAnswer) → a ≡ b → given ≡ words → prior ≡ was → kept ≡ is
-    → RunsAsPlain of_kind suites a k most given r prior kept → RunsAsPlain of_kind suites b k most words r was is
-runs_as of_kind suites a b k most given words r prior was kept is letters asked before now runs =
-    subst (λ (n : ℕ). RunsAsPlain of_kind suites n k most words r was is) letters
-    (subst (λ (ws : List (List ℕ)). RunsAsPlain of_kind suites a k most ws r was is) asked
-    (subst (λ (ks : List KeptAnswer). RunsAsPlain of_kind suites a k most given r ks is) before
-    (subst (λ (ks : List KeptAnswer). RunsAsPlain of_kind suites a k most given r prior ks) now runs)))
+pub runs_as : (of_kind : Kind) (testing : Testing) (a b k most : ℕ) (given words : List (List ℕ)) (r : Result Learned LearnStop) (prior was kept is : List KeptAnswer) → a ≡ b → given ≡ words → prior ≡ was → kept ≡ is
+    → RunsAsPlain of_kind testing a k most given r prior kept → RunsAsPlain of_kind testing b k most words r was is
+runs_as of_kind testing a b k most given words r prior was kept is letters asked before now runs =
+    subst (λ (n : ℕ). RunsAsPlain of_kind testing n k most words r was is) letters
+    (subst (λ (ws : List (List ℕ)). RunsAsPlain of_kind testing a k most ws r was is) asked
+    (subst (λ (ks : List KeptAnswer). RunsAsPlain of_kind testing a k most given r ks is) before
+    (subst (λ (ks : List KeptAnswer). RunsAsPlain of_kind testing a k most given r prior ks) now runs)))
 
 -- two runs of one machine
 same_learned : (c d : Rows) (i j : ℕ) (p q : List (List (List ℕ))) → PlainLearned c i p ≡ PlainLearned d j q → (c ≡ d) × (i ≡ j) × (p ≡ q)

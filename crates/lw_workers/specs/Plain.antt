@@ -5,12 +5,11 @@ use Rattle.std.specs.List.Sorted.{IsPermutation}
 use Rattle.lw_words.specs.Word.{answers_of}
 use Rattle.lw_words.specs.declared.kept.KeptAnswer.{KeptAnswer}
 use Rattle.lw_mealy.specs.Machine.{Gives, IsMachine, Rows}
-use Rattle.lw_chunks.specs.declared.method.Method.{Method}
-use Rattle.lw_chunks.specs.declared.method.Method.TheVariants as method
+use Rattle.lw_rounds.specs.declared.settings.Testing.{Testing}
 use Rattle.lw_plain.specs.Rounds.{Task, LearnsPlainly}
 use Rattle.lw_plain.specs.Taken.{AreTakenInTurn}
 use Rattle.lw_rounds.specs.Learner.{refinements_of}
-use Rattle.lw_rounds.specs.Plain.{plain_task}
+use Rattle.lw_rounds.specs.Plain.{by_w, plain_task}
 use Rattle.lw_rounds.specs.declared.learned.Learned.{Learned}
 use Rattle.lw_rounds.specs.declared.learner.Kind.{Kind}
 use Rattle.lw_rounds.specs.declared.learner.Kind.TheVariants as kind
@@ -22,10 +21,10 @@ pub record HasPlainWords (task : Task) (given : List (List ℕ)) (model : Rows) 
   pub learns : LearnsPlainly task given model refinements batches
   pub taken : AreTakenInTurn [] batches (map (λ k. k.word) kept)
 
--- so it is where a table was learned by the W-method with no prior answers, for each machine that agrees with all recorded answers; these words
+-- so it is where a table was learned by the W-method with no walks and no prior answers, for each machine that agrees with all recorded answers; these words
 -- were asked first
-abbrev pub RunsAsPlain : Kind → Method → ℕ → ℕ → ℕ → List (List ℕ) → Result Learned LearnStop → List KeptAnswer → List KeptAnswer → Type 0
-RunsAsPlain of_kind suites a k most given learned prior kept = of_kind ≡ kind.Table → suites ≡ method.W → prior ≡ [] → (m : Rows) → IsMachine a m → Gives m (answers_of kept)
+abbrev pub RunsAsPlain : Kind → Testing → ℕ → ℕ → ℕ → List (List ℕ) → Result Learned LearnStop → List KeptAnswer → List KeptAnswer → Type 0
+RunsAsPlain of_kind testing a k most given learned prior kept = of_kind ≡ kind.Table → testing ≡ by_w → prior ≡ [] → (m : Rows) → IsMachine a m → Gives m (answers_of kept)
     → IfOk learned (λ l. HasPlainWords (plain_task a m k most) given l.model.rows (refinements_of l.learner) kept)
 
 -- two runs have one model, as many refinements, and the same words but for the order

@@ -72,9 +72,9 @@ pub fn learn_after<O: Oracle, W: Watcher>(
     ensures learned { IfOk result (λ l. IsLearned settings.kind (O.state oracle.old).inputs
         (O.state oracle.old).outputs settings.extra settings.max_states
         (answers_of (O.state oracle.new).kept) l.model l.learner) }
-    ensures enough { IfOk result (λ l. IsEnoughFor settings.suite (O.state oracle.old).inputs
+    ensures enough { IfOk result (λ l. IsEnoughFor settings.testing (O.state oracle.old).inputs
         settings.extra (answers_of (O.state oracle.new).kept) l.model) }
-    ensures plainly { IfOk result (λ l. LearnsGiven settings.kind settings.suite
+    ensures plainly { IfOk result (λ l. LearnsGiven settings.kind settings.testing
         (O.state oracle.old).inputs settings.extra settings.max_states words.now l.model.rows
         (refinements_of l.learner) (O.state oracle.old) (O.state oracle.new)) }
     ensures stops { IfErr result (StopsAs (O.state oracle.old).inputs

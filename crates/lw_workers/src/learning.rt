@@ -47,9 +47,9 @@ pub fn learn_with<S: Sul + Send, R: Threads + Wait + Sync, W: Watcher>(
     ensures learned { IfOk result.learned (λ l. IsLearned settings.kind pool.inputs
         pool.outputs settings.extra settings.max_states (answers_of result.pool.kept) l.model
         l.learner) }
-    ensures enough { IfOk result.learned (λ l. IsEnoughFor settings.suite pool.inputs
+    ensures enough { IfOk result.learned (λ l. IsEnoughFor settings.testing pool.inputs
         settings.extra (answers_of result.pool.kept) l.model) }
-    ensures plainly { RunsAsPlain settings.kind settings.suite pool.inputs settings.extra
+    ensures plainly { RunsAsPlain settings.kind settings.testing pool.inputs settings.extra
         settings.max_states words.now result.learned pool.kept result.pool.kept }
     ensures stops { IfErr result.learned (StopsAs pool.inputs pool.outputs settings.extra
         settings.max_states (answers_of result.pool.kept)) }

@@ -98,9 +98,9 @@ pub fn learn_machine<R: Threads + Wait + Sync + Drop, W: Watcher>(
     ensures learned { IfOk result.learned (λ l. IsLearned settings.kind system.now.inputs
         system.now.outputs settings.extra settings.max_states (answers_of result.kept.answers)
         l.model l.learner) }
-    ensures enough { IfOk result.learned (λ l. IsEnoughFor settings.suite system.now.inputs
+    ensures enough { IfOk result.learned (λ l. IsEnoughFor settings.testing system.now.inputs
         settings.extra (answers_of result.kept.answers) l.model) }
-    ensures plainly { RunsAsPlain settings.kind settings.suite system.now.inputs settings.extra
+    ensures plainly { RunsAsPlain settings.kind settings.testing system.now.inputs settings.extra
         settings.max_states start.words result.learned start.cache.kept result.kept.answers }
     ensures stops { IfErr result.learned (StopsAs system.now.inputs system.now.outputs
         settings.extra settings.max_states (answers_of result.kept.answers)) }

@@ -11,7 +11,7 @@ use Rattle.lw_json.specs.declared.files.Machine.{Machine}
 use Rattle.lw_pool.specs.Opening.{MayBegin}
 use Rattle.lw_rounds.specs.Learner.{refinements_of}
 use Rattle.lw_rounds.specs.declared.learned.Learned.{Learned}
-use Rattle.lw_chunks.specs.declared.method.Method.{Method}
+use Rattle.lw_rounds.specs.declared.settings.Testing.{Testing}
 use Rattle.lw_rounds.specs.declared.learner.Kind.{Kind}
 use Rattle.lw_children.specs.Crews.{first_naming}
 use Rattle.lw_system.specs.NewLines.{count_of}
@@ -38,6 +38,6 @@ IsMachineFor aim.Machine m = Unit {0}
 IsMachineFor aim.Acceptor m = (letters : List (List ℕ)) × AreAcceptorLetters letters × (m.inputs ≡ asked_names letters) × (m.outputs ≡ answer_names)
 
 -- an end with these answers that carries what was learned has its model
-abbrev pub GivesModel : (kind : Kind) (method : Method) (a b k most : ℕ) → List KeptAnswer → Learned → Type 0
-GivesModel kind method a b k most kept l =
-    (end : End) → end.kept.answers ≡ kept → end.learner ≡ Some l.learner → end.refinements ≡ refinements_of l.learner → HasModel kind method a b k most end l.model
+abbrev pub GivesModel : (kind : Kind) (testing : Testing) (a b k most : ℕ) → List KeptAnswer → Learned → Type 0
+GivesModel kind testing a b k most kept l =
+    (end : End) → end.kept.answers ≡ kept → end.learner ≡ Some l.learner → end.refinements ≡ refinements_of l.learner → HasModel kind testing a b k most end l.model

@@ -2,10 +2,14 @@
 use Rattle.std.specs.Prelude.{◌≡◌, ℕ, ◌+◌, ◌<◌, List, length, take, Option, MatchOption}
 use Rattle.std.specs.List.{All, AllWithin}
 use Rattle.lw_words.specs.Word.{Answer}
-use Rattle.lw_mealy.specs.Machine.{Rows, answer, Gives}
+use Rattle.lw_mealy.specs.Machine.{Rows, answer, Gives, MealyMachine}
 use Rattle.lw_cache.specs.Against.{Differs}
 use Rattle.lw_cache.specs.Cut.{word_at}
 use Rattle.lw_cache.specs.Known.{IsKnown, Reads}
+use Rattle.lw_certify.specs.Verdict.{IsSuiteBy}
+use Rattle.lw_chunks.specs.declared.method.Method.{Method}
+use Rattle.lw_draw.specs.declared.drawing.Drawn.{Drawn}
+use Rattle.lw_rounds.specs.Learned.{AreWalked}
 
 -- the word is known with the machine's outputs
 abbrev pub AgreesOn : Rows → List Answer → List ℕ → Type 0
@@ -41,3 +45,14 @@ pub record Passes (h : Rows) (ks : List Answer) (words : List (List ℕ)) : Type
 -- the result of a suite: a word on which the machine differs, or that it passes
 abbrev pub Comes : Rows → List Answer → List (List ℕ) → Option (List ℕ) → Type 0
 Comes h ks words found = MatchOption found (Passes h ks words) (Differs h ks)
+
+-- the result of walks: a word on which the machine differs, or that it agrees with the answers, and that the walks of its model,
+-- where some are drawn, are known
+abbrev pub ComesWalked : (h : Rows) (a : ℕ) (model : Rows) → Option Drawn → List Answer → Option (List ℕ) → Type 0
+ComesWalked h a model drawn ks found = MatchOption found (Gives h ks × AreWalked drawn a ks model) (Differs h ks)
+
+-- the machine passes the suite of its model
+pub record HasPassed (h : Rows) (method : Method) (model : MealyMachine) (k : ℕ) (ks : List Answer) : Type 0 where
+  pub suite : List (List ℕ)
+  pub made : IsSuiteBy method model.inputs model.rows k suite
+  pub passes : Passes h ks suite

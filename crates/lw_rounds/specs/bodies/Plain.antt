@@ -5,8 +5,6 @@ use Rattle.lw_mealy.specs.Machine.{MealyMachine, Rows}
 use Rattle.lw_cache.specs.Settling.{OracleState}
 use Rattle.lw_separate.specs.Canonical.{IsCanonical}
 use Rattle.lw_chunks.specs.Size.{suite_size, greatest_suite}
-use Rattle.lw_chunks.specs.declared.method.Method.{Method}
-use Rattle.lw_chunks.specs.declared.method.Method.TheVariants as method
 use Rattle.lw_certify.specs.Verdict.{IsSuiteBy}
 use Rattle.lw_plain.specs.Rounds.{Task, IsTableAfter, closed_by}
 use Rattle.lw_plain.specs.Table.{PlainTable, search_word, split_by}
@@ -15,13 +13,14 @@ use Rattle.lw_plain.specs.Turns.{AsksInTurn, IsPlainOracle}
 use Rattle.lw_table.specs.Plain.{ClosesPlainly, RefinesPlainly}
 use Rattle.lw_table.specs.Table.{new_table}
 use Rattle.lw_rounds.specs.Learner.{inputs_of, most_of, refinements_of}
-use Rattle.lw_rounds.specs.Plain.{IsLearnedPlainly, LearnsAsPlain}
+use Rattle.lw_rounds.specs.Plain.{by_w, IsLearnedPlainly, LearnsAsPlain}
 use Rattle.lw_rounds.specs.declared.hypothesis.Tested.{Tested}
 use Rattle.lw_rounds.specs.declared.hypothesis.Tested.TheVariants as tested
 use Rattle.lw_rounds.specs.declared.learner.Kind.{Kind}
 use Rattle.lw_rounds.specs.declared.learner.Kind.TheVariants as kind
 use Rattle.lw_rounds.specs.declared.learner.Learner.{Learner}
 use Rattle.lw_rounds.specs.declared.learner.Learner.TheVariants.{Table, Tree}
+use Rattle.lw_rounds.specs.declared.settings.Testing.{Testing}
 
 -- a new learner of this kind is the new table
 abbrev pub IsNewTable : Kind → ℕ → ℕ → ℕ → Learner → Type 0
@@ -87,19 +86,19 @@ abbrev pub TellsPlainly : Rows → List (List ℕ) → MealyMachine → Tested �
 TellsPlainly h words model (tested.Differs word) before now = TestsPlainly h words (Some word) before now
 TellsPlainly h words model (tested.Sure sure) before now = (sure ≡ model) × TestsPlainly h words None before now
 
--- the words are the suite of the model, which isn't too large
-pub record TellsBySuite (h : Rows) (suites : Method) (k : ℕ) (model : MealyMachine) (told : Tested) (before now : OracleState) : Type 0 where
+-- the words are the suite of the model, which isn't too large, and all that is asked where no walks are drawn
+pub record TellsBySuite (h : Rows) (testing : Testing) (k : ℕ) (model : MealyMachine) (told : Tested) (before now : OracleState) : Type 0 where
   pub suite : List (List ℕ)
-  pub made : IsSuiteBy suites model.inputs model.rows k suite
+  pub made : IsSuiteBy testing.suite model.inputs model.rows k suite
   pub few : suite_size (length model.rows) model.inputs k ≤ greatest_suite
-  pub tells : TellsPlainly h suite model told before now
+  pub tells : testing.walks ≡ None → TellsPlainly h suite model told before now
 
 -- the model is the canonical form of the machine
-pub record TellsByForm (h : MealyMachine) (suites : Method) (k : ℕ) (told : Tested) (before now : OracleState) : Type 0 where
+pub record TellsByForm (h : MealyMachine) (testing : Testing) (k : ℕ) (told : Tested) (before now : OracleState) : Type 0 where
   pub model : MealyMachine
   pub inputs : model.inputs ≡ h.inputs
   pub canonical : IsCanonical h.inputs h.rows model.rows
-  pub by_suite : TellsBySuite h.rows suites k model told before now
+  pub by_suite : TellsBySuite h.rows testing k model told before now
 
 -- a learner goes on to a table of the plain learner, whose batches were asked
 pub record GoesOnPlainly (task : Task) (given : List (List ℕ)) (now : Learner) (asked : List (List (List ℕ))) (was is : List KeptAnswer) : Type 0 where
@@ -108,18 +107,18 @@ pub record GoesOnPlainly (task : Task) (given : List (List ℕ)) (now : Learner)
   pub asks : AsksInTurn task.machine asked table.batches was is
 
 -- what is so of a learner that goes on by the W-method from a table of the plain learner, and of one that ends with a model
-abbrev pub GoesAsPlain : Learner → Learner → Method → ℕ → OracleState → OracleState → Type 0
-GoesAsPlain l on suites k before now = suites ≡ method.W → (task : Task) (given : List (List ℕ)) (p : PlainTable) → IsTaskOf l k task → IsAtPlain task given l p → IsPlainOracle task.machine p.batches before now
+abbrev pub GoesAsPlain : Learner → Learner → Testing → ℕ → OracleState → OracleState → Type 0
+GoesAsPlain l on testing k before now = testing ≡ by_w → (task : Task) (given : List (List ℕ)) (p : PlainTable) → IsTaskOf l k task → IsAtPlain task given l p → IsPlainOracle task.machine p.batches before now
     → GoesOnPlainly task given on p.batches before.kept now.kept
 
-abbrev pub EndsAsPlain : Learner → Learner → Method → ℕ → Rows → OracleState → OracleState → Type 0
-EndsAsPlain l on suites k model before now = suites ≡ method.W → (task : Task) (given : List (List ℕ)) (p : PlainTable) → IsTaskOf l k task → IsAtPlain task given l p → IsPlainOracle task.machine p.batches before now
+abbrev pub EndsAsPlain : Learner → Learner → Testing → ℕ → Rows → OracleState → OracleState → Type 0
+EndsAsPlain l on testing k model before now = testing ≡ by_w → (task : Task) (given : List (List ℕ)) (p : PlainTable) → IsTaskOf l k task → IsAtPlain task given l p → IsPlainOracle task.machine p.batches before now
     → IsLearnedPlainly task given model (refinements_of on) p.batches before.kept now.kept
 
 -- a round does the one or the other
-abbrev pub RoundsAsPlain : Learner → Learner → Method → ℕ → Option MealyMachine → OracleState → OracleState → Type 0
-RoundsAsPlain l on suites k found before now = MatchOption found (GoesAsPlain l on suites k before now) (λ model. EndsAsPlain l on suites k model.rows before now)
+abbrev pub RoundsAsPlain : Learner → Learner → Testing → ℕ → Option MealyMachine → OracleState → OracleState → Type 0
+RoundsAsPlain l on testing k found before now = MatchOption found (GoesAsPlain l on testing k before now) (λ model. EndsAsPlain l on testing k model.rows before now)
 
 -- what is so of a learning that begins with a new table
-abbrev pub LearnsFromNew : Learner → Learner → Method → ℕ → Rows → OracleState → OracleState → Type 0
-LearnsFromNew l on suites k model before now = (a b most : ℕ) → l ≡ Table (new_table a b most) → LearnsAsPlain kind.Table suites a k most model (refinements_of on) before now
+abbrev pub LearnsFromNew : Learner → Learner → Testing → ℕ → Rows → OracleState → OracleState → Type 0
+LearnsFromNew l on testing k model before now = (a b most : ℕ) → l ≡ Table (new_table a b most) → LearnsAsPlain kind.Table testing a k most model (refinements_of on) before now

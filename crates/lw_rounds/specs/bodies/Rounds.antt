@@ -10,7 +10,6 @@ use Rattle.lw_separate.specs.Canonical.{IsCanonical}
 use Rattle.lw_cache.specs.declared.stops.AskStop.TheVariants.{NoMemory}
 use Rattle.lw_cache.specs.declared.stops.GrowStop.{GrowStop}
 use Rattle.lw_cache.specs.declared.stops.GrowStop.TheVariants as grow
-use Rattle.lw_chunks.specs.declared.method.Method.{Method}
 use Rattle.lw_chunks.specs.declared.size.SuiteFault.{SuiteFault}
 use Rattle.lw_chunks.specs.declared.size.SuiteFault.TheVariants as fault
 use Rattle.lw_settle.specs.declared.settling.Settled.{Settled}
@@ -21,6 +20,7 @@ use Rattle.lw_rounds.specs.declared.learner.Kind.{Kind}
 use Rattle.lw_rounds.specs.declared.learner.Learner.{Learner}
 use Rattle.lw_rounds.specs.declared.learner.Learner.TheVariants.{Table, Tree}
 use Rattle.lw_rounds.specs.Learned.{IsCertified, IsEnoughFor, IsLearned, IsTooLarge, IsTooMany, StopsAs}
+use Rattle.lw_rounds.specs.declared.settings.Testing.{Testing}
 use Rattle.lw_rounds.specs.declared.stops.LearnStop.{LearnStop}
 use Rattle.lw_rounds.specs.declared.stops.LearnStop.TheVariants as learn
 use Rattle.lw_rounds.specs.declared.hypothesis.Tested.{Tested}
@@ -33,15 +33,15 @@ pub record HasCrowd (ks : List Answer) (n : ℕ) : Type 0 where
   pub each : length words ≡ n
 
 -- a machine that is certified and that the answers are enough for, and that is canonical for the one that was tested
-pub record IsSureOf (h : MealyMachine) (method : Method) (k : ℕ) (ks : List Answer) (model : MealyMachine) : Type 0 where
+pub record IsSureOf (h : MealyMachine) (testing : Testing) (k : ℕ) (ks : List Answer) (model : MealyMachine) : Type 0 where
   pub certified : IsCertified h.inputs h.outputs k ks model
-  pub enough : IsEnoughFor method h.inputs k ks model
+  pub enough : IsEnoughFor testing h.inputs k ks model
   pub canonical : IsCanonical h.inputs h.rows model.rows
 
 -- the result of a test: a known word on which the machine differs, or its canonical form, which is certified
-abbrev pub IsTested : MealyMachine → Method → ℕ → List Answer → Tested → Type 0
-IsTested h method k ks (tested.Differs word) = Differs h.rows ks word
-IsTested h method k ks (tested.Sure model) = IsSureOf h method k ks model
+abbrev pub IsTested : MealyMachine → Testing → ℕ → List Answer → Tested → Type 0
+IsTested h testing k ks (tested.Differs word) = Differs h.rows ks word
+IsTested h testing k ks (tested.Sure model) = IsSureOf h testing k ks model
 
 -- what is so where a test of a machine of n states stops; it never stops by too many states
 abbrev pub StopsTest : ℕ → ℕ → ℕ → ℕ → List Answer → LearnStop → Type 0
@@ -113,9 +113,9 @@ pub record IsReady (o : OracleState) (l : Learner) : Type 0 where
   pub read : IsRead (answers_of o.kept) l
 
 -- what is learned, and why it isn't, by the kind and the numbers of the learner that a learning began with
-pub record IsLearnedFrom (before : Learner) (method : Method) (k : ℕ) (ks : List Answer) (model : MealyMachine) (now : Learner) : Type 0 where
+pub record IsLearnedFrom (before : Learner) (testing : Testing) (k : ℕ) (ks : List Answer) (model : MealyMachine) (now : Learner) : Type 0 where
   pub learned : IsLearned (kind_of before) (inputs_of before) (outputs_of before) k (most_of before) ks model now
-  pub enough : IsEnoughFor method (inputs_of before) k ks model
+  pub enough : IsEnoughFor testing (inputs_of before) k ks model
 
 abbrev pub StopsFrom : Learner → ℕ → List Answer → LearnStop → Type 0
 StopsFrom before k ks stop = StopsAs (inputs_of before) (outputs_of before) k (most_of before) ks stop

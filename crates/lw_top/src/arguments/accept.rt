@@ -11,7 +11,7 @@ use crate::ArgumentStop;
 use crate::arguments::learn::values_for;
 use crate::entries::{
     EXTRA_ENTRY, KEPT, LEARNER, LENGTH_ENTRY, LOG, MAX_STATES, RANDOM_ENTRY, SEED_ENTRY, SETUP,
-    WORDS, WORKERS_ENTRY,
+    WALKS, WORDS, WORKERS_ENTRY,
 };
 use crate::matching::read_matches;
 use crate::options::{Argument, Entry, Syntax};
@@ -44,6 +44,7 @@ static ACCEPT: Syntax = Syntax {
         KEPT,
         WORDS,
         RANDOM_ENTRY,
+        WALKS,
         LENGTH_ENTRY,
         SEED_ENTRY,
         LOG,
@@ -52,6 +53,8 @@ static ACCEPT: Syntax = Syntax {
     takes_more: false,
     in_place: &["table"],
     together: &["random", "length", "seed"],
+    instead: &["walks", "length", "seed"],
+    either: &["random or --walks", "length", "seed"],
 };
 
 /// The arguments that `accept` takes.

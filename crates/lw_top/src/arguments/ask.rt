@@ -45,6 +45,8 @@ static ASK: Syntax = Syntax {
     takes_more: true,
     in_place: &["table", "accept", "acceptor"],
     together: &[],
+    instead: &[],
+    either: &[],
 };
 
 /// The arguments that `ask` takes.

@@ -44,6 +44,8 @@ static CHECK: Syntax = Syntax {
     takes_more: false,
     in_place: &["acceptor"],
     together: &[],
+    instead: &[],
+    either: &[],
 };
 
 /// The arguments that `check` takes.

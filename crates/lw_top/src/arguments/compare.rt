@@ -30,6 +30,8 @@ static COMPARE: Syntax = Syntax {
     takes_more: false,
     in_place: &[],
     together: &[],
+    instead: &[],
+    either: &[],
 };
 
 /// The arguments that `compare` takes.

@@ -34,6 +34,8 @@ static HELP: Syntax = Syntax {
     takes_more: false,
     in_place: &[],
     together: &[],
+    instead: &[],
+    either: &[],
 };
 
 /// The arguments that `help` takes.

@@ -1,16 +1,16 @@
 //! The arguments of `learn`.
-ghost use Rattle.std.specs.Prelude.{◌≡◌, Some, None, Err, IfOk, IfSome, option_map, string_bytes};
+ghost use Rattle.std.specs.Prelude.{◌≡◌, ◌≤◌, Some, None, Err, IfOk, IfSome, option_map, string_bytes};
 ghost use Rattle.clap.specs.Words.{found_of, rows_of};
 ghost use Rattle.lw_learn.specs.Arguments.{AreFewDrawn};
 ghost use Rattle.lw_top.specs.CommandLine.{texts, app_for};
-ghost use Rattle.lw_top.specs.LearnCommand.{drawn_in, file_names, files_in, learn_app, learn_found, learn_syntax, learn_values, learn_values_from, setting_values, settings_by, source_from, source_in};
+ghost use Rattle.lw_top.specs.LearnCommand.{draw_values, drawn_by, drawn_in, file_names, files_in, learn_app, learn_found, learn_syntax, learn_values, learn_values_from, setting_values, settings_by, source_from, source_in};
 ghost use Rattle.lw_top.specs.Syntaxes.{syntax_values};
 ghost use Rattle.lw_top.specs.declared.values.ArgumentStop.{ArgumentStop as Stop};
 
 use crate::ArgumentStop;
 use crate::entries::{
     EXTRA_ENTRY, KEPT, LEARNER, LENGTH_ENTRY, LOG, MAX_STATES, MODEL, RANDOM_ENTRY, SEED_ENTRY,
-    SETUP, SUITE, TABLE, WORDS, WORKERS_ENTRY,
+    SETUP, SUITE, TABLE, WALKS, WORDS, WORKERS_ENTRY,
 };
 use crate::matching::read_matches;
 use crate::options::{Argument, Entry, Syntax};
@@ -18,8 +18,9 @@ use crate::ranges::{EXTRA, LENGTH, RANDOM, SEED, STATES, WORKERS};
 use crate::values::{kind_at, method_at, number_at, str_at, text_at};
 use clap::ArgMatches;
 use lw_chunks::Method;
-use lw_learn::{Drawn, LearnArguments, LearnFiles};
-use lw_rounds::Settings;
+use lw_draw::Drawn;
+use lw_learn::{LearnArguments, LearnFiles};
+use lw_rounds::{Settings, Testing};
 use lw_system::{Goal, Source};
 use std::alloc::{AllocError, Global};
 
@@ -47,6 +48,7 @@ static LEARN: Syntax = Syntax {
         KEPT,
         WORDS,
         RANDOM_ENTRY,
+        WALKS,
         LENGTH_ENTRY,
         SEED_ENTRY,
         LOG,
@@ -56,6 +58,8 @@ static LEARN: Syntax = Syntax {
     takes_more: false,
     in_place: &["table"],
     together: &["random", "length", "seed"],
+    instead: &["walks", "length", "seed"],
+    either: &["random or --walks", "length", "seed"],
 };
 
 /// The arguments that `learn` takes.
@@ -93,39 +97,72 @@ pub(crate) fn source_at(
     }
 }
 
-/// The settings of the learning, where each number is in its range, the learner is of a kind, and suites are made by a method.
-pub(crate) fn settings_at(matches: &ArgMatches, suite: Option<Method>) -> Option<Settings>
-    ensures { option_map setting_values result ≡
+/// The settings of the learning with these walks, where each number is in its range, the learner is of a kind, and suites are
+/// made by a method.
+pub(crate) fn settings_at(
+    matches: &ArgMatches,
+    suite: Option<Method>,
+    walks: Option<Drawn>,
+) -> Option<Settings>
+    ensures values { option_map setting_values result ≡
         settings_by suite (rows_of (found_of matches.now)) }
+    ensures walks { IfSome result (λ s. s.testing.walks ≡ walks) }
 {
     let workers = number_at(matches, "workers", WORKERS)?;
     let extra = number_at(matches, "extra", EXTRA)?;
     let kind = kind_at(matches, "learner")?;
     let max_states = number_at(matches, "max-states", STATES)?;
+    let suite = suite?;
     Some(Settings {
         workers: workers as u8,
         kind,
         extra: extra as u8,
         max_states: max_states as u16,
-        suite: suite?,
+        testing: Testing { suite, walks },
     })
 }
 
-/// The words that are to be drawn, where all of their numbers are given, or none; else the arguments aren't taken.
-pub(crate) fn drawn_at(matches: &ArgMatches) -> Option<Option<Drawn>>
-    ensures value { result ≡ drawn_in (rows_of (found_of matches.now)) }
-    ensures few { IfSome result (λ drawn. IfSome drawn AreFewDrawn) }
+/// What is drawn: words that are asked first, and walks behind the suites.
+#[derive(Clone, Copy)]
+pub(crate) struct Draws {
+    pub(crate) words: Option<Drawn>,
+    pub(crate) walks: Option<Drawn>,
+}
+
+/// So many words, if some are to be drawn.
+fn drawn(count: Option<u64>, length: u64, seed: u64) -> Option<Drawn>
+    requires { IfSome count (λ n. n ≤ 1000000) × (length ≤ 65536) }
+    ensures value { result ≡ drawn_by length seed count }
+    ensures few { IfSome result AreFewDrawn }
 {
-    let count = number_at(matches, "random", RANDOM);
+    let count = count?;
+    Some(Drawn {
+        count: count as u32,
+        length: length as u32,
+        seed,
+    })
+}
+
+/// The words and the walks that are to be drawn: neither, or some, with how many letters are drawn for each and a seed; else the
+/// arguments aren't taken.
+pub(crate) fn draws_at(matches: &ArgMatches) -> Option<Draws>
+    ensures value { option_map draw_values result ≡ drawn_in (rows_of (found_of matches.now)) }
+    ensures few { IfSome result (λ d. IfSome d.words AreFewDrawn) }
+{
+    let words = number_at(matches, "random", RANDOM);
+    let walks = number_at(matches, "walks", RANDOM);
     let length = number_at(matches, "length", LENGTH);
     let seed = number_at(matches, "seed", SEED);
-    match (count, length, seed) {
-        (None, None, None) => Some(None),
-        (Some(count), Some(length), Some(seed)) => Some(Some(Drawn {
-            count: count as u32,
-            length: length as u32,
-            seed,
-        })),
+    let is_asked = words.is_some() || walks.is_some();
+    match (length, seed) {
+        (Some(length), Some(seed)) if is_asked => Some(Draws {
+            words: drawn(words, length, seed),
+            walks: drawn(walks, length, seed),
+        }),
+        (None, None) if !is_asked => Some(Draws {
+            words: None,
+            walks: None,
+        }),
         _ => None,
     }
 }
@@ -161,14 +198,14 @@ pub(crate) fn values_for(
         (settings_by suite (rows_of (found_of matches.now)))
         (drawn_in (rows_of (found_of matches.now))) (file_names files) ≡ None }
 {
-    let Some(settings) = settings_at(matches, suite) else {
+    let Some(draws) = draws_at(matches) else {
         return Err(ArgumentStop::Usage);
     };
-    let Some(drawn) = drawn_at(matches) else {
+    let Some(settings) = settings_at(matches, suite, draws.walks) else {
         return Err(ArgumentStop::Usage);
     };
     let (source, system) = source_at(alloc, matches)?;
-    Ok(LearnArguments::new(goal, source, system, settings, drawn, files))
+    Ok(LearnArguments::new(goal, source, system, settings, draws.words, files))
 }
 
 /// The values that clap found, where the file of the system is named.

@@ -33,6 +33,8 @@ static RECHECK: Syntax = Syntax {
     takes_more: false,
     in_place: &[],
     together: &[],
+    instead: &[],
+    either: &[],
 };
 
 /// The arguments that `recheck` takes.

@@ -23,6 +23,8 @@ static SERVE: Syntax = Syntax {
     takes_more: false,
     in_place: &[],
     together: &[],
+    instead: &[],
+    either: &[],
 };
 
 /// The arguments that `serve` takes.

@@ -43,6 +43,8 @@ static TRIAL: Syntax = Syntax {
     takes_more: false,
     in_place: &[],
     together: &[],
+    instead: &[],
+    either: &[],
 };
 
 /// The arguments that `trial` takes.

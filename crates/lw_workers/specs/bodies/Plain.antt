@@ -2,11 +2,10 @@
 use Rattle.std.specs.Prelude.{◌≡◌, ℕ, List, []}
 use Rattle.lw_mealy.specs.Machine.{Rows}
 use Rattle.lw_cache.specs.Settling.{OracleState}
-use Rattle.lw_chunks.specs.declared.method.Method.{Method}
-use Rattle.lw_chunks.specs.declared.method.Method.TheVariants as method
+use Rattle.lw_rounds.specs.declared.settings.Testing.{Testing}
 use Rattle.lw_plain.specs.Table.{unless_empty}
 use Rattle.lw_plain.specs.Turns.{AsksInTurn, IsPlainOracle}
-use Rattle.lw_rounds.specs.Plain.{IsLearnedPlainly, plain_task}
+use Rattle.lw_rounds.specs.Plain.{by_w, IsLearnedPlainly, plain_task}
 use Rattle.lw_rounds.specs.declared.learner.Kind.{Kind}
 use Rattle.lw_rounds.specs.declared.learner.Kind.TheVariants as kind
 
@@ -14,6 +13,6 @@ use Rattle.lw_rounds.specs.declared.learner.Kind.TheVariants as kind
 abbrev pub AsksGiven : List (List ℕ) → OracleState → OracleState → Type 0
 AsksGiven given before now = (m : Rows) → IsPlainOracle m [] before now → AsksInTurn m [] (unless_empty given) before.kept now.kept
 
-abbrev pub LearnsGiven : Kind → Method → ℕ → ℕ → ℕ → List (List ℕ) → Rows → ℕ → OracleState → OracleState → Type 0
-LearnsGiven of_kind suites a k most given model refinements before now = of_kind ≡ kind.Table → suites ≡ method.W → (m : Rows) → IsPlainOracle m [] before now
+abbrev pub LearnsGiven : Kind → Testing → ℕ → ℕ → ℕ → List (List ℕ) → Rows → ℕ → OracleState → OracleState → Type 0
+LearnsGiven of_kind testing a k most given model refinements before now = of_kind ≡ kind.Table → testing ≡ by_w → (m : Rows) → IsPlainOracle m [] before now
     → IsLearnedPlainly (plain_task a m k most) given model refinements [] before.kept now.kept

@@ -16,9 +16,9 @@ returns-clause-asked g c =
 
 pub returns-clause-enough : goal.returns-clause-enough
 returns-clause-enough g c =
-    enough_as c.args.settings.suite c.args.pool.inputs c.args.pool.inputs c.args.settings.extra c.learn_with-learned.result.pool.kept c.into_kept.result.answers c.learn_with-learned.result.learned refl (sym (c.into_kept.ensures ∙ c.into_parts-sessions.ensures.cache.0)) c.learn_with-learned.ensures.enough
+    enough_as c.args.settings.testing c.args.pool.inputs c.args.pool.inputs c.args.settings.extra c.learn_with-learned.result.pool.kept c.into_kept.result.answers c.learn_with-learned.result.learned refl (sym (c.into_kept.ensures ∙ c.into_parts-sessions.ensures.cache.0)) c.learn_with-learned.ensures.enough
 
 pub returns-clause-plainly : goal.returns-clause-plainly
 returns-clause-plainly g c =
-    runs_as c.args.settings.kind c.args.settings.suite c.args.pool.inputs c.args.pool.inputs c.args.settings.extra c.args.settings.max_states c.args.words.now c.args.words.now c.learn_with-learned.result.learned c.args.pool.kept c.args.pool.kept
+    runs_as c.args.settings.kind c.args.settings.testing c.args.pool.inputs c.args.pool.inputs c.args.settings.extra c.args.settings.max_states c.args.words.now c.args.words.now c.learn_with-learned.result.learned c.args.pool.kept c.args.pool.kept
     c.learn_with-learned.result.pool.kept c.into_kept.result.answers refl refl refl (sym (c.into_kept.ensures ∙ c.into_parts-sessions.ensures.cache.0)) c.learn_with-learned.ensures.plainly

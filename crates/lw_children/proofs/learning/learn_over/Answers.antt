@@ -87,19 +87,19 @@ returns-in-Ok-new-clause-asked g c =
     subst (λ (words : List (List ℕ)). OnOk c.learn_and_retire.result.learned (AnswersWords words c.learn_and_retire.result.kept.answers)) c.as_slice.ensures c.learn_and_retire.ensures.asked
 
 pub returns-in-Err-clause-enough : goal.returns-in-Err-clause-enough
-returns-in-Err-clause-enough g c = enough_never c.args.settings.suite (length c.args.command.now.inputs) c.args.settings.extra c.give_up.result.learned _ c.give_up.result.kept.answers c.give_up.ensures.learned
+returns-in-Err-clause-enough g c = enough_never c.args.settings.testing (length c.args.command.now.inputs) c.args.settings.extra c.give_up.result.learned _ c.give_up.result.kept.answers c.give_up.ensures.learned
 
 pub returns-in-Ok-new-clause-enough : goal.returns-in-Ok-new-clause-enough
 returns-in-Ok-new-clause-enough g c =
     let kept = c.learn_and_retire.result.kept.answers in
-    enough_as c.args.settings.suite c.in-Ok-new.pool.inputs (length c.args.command.now.inputs) c.args.settings.extra kept kept c.learn_and_retire.result.learned (c.in-Ok-new.ensures.numbers.0 ∙ c.len-inputs.ensures.value) refl c.learn_and_retire.ensures.enough
+    enough_as c.args.settings.testing c.in-Ok-new.pool.inputs (length c.args.command.now.inputs) c.args.settings.extra kept kept c.learn_and_retire.result.learned (c.in-Ok-new.ensures.numbers.0 ∙ c.len-inputs.ensures.value) refl c.learn_and_retire.ensures.enough
 
 pub returns-in-Err-clause-plainly : goal.returns-in-Err-clause-plainly
 returns-in-Err-clause-plainly g c =
-    plain_never c.args.settings.kind c.args.settings.suite (length c.args.command.now.inputs) c.args.settings.extra c.args.settings.max_states c.args.start.words c.give_up.result.learned _ c.args.start.cache.kept c.give_up.result.kept.answers c.give_up.ensures.learned
+    plain_never c.args.settings.kind c.args.settings.testing (length c.args.command.now.inputs) c.args.settings.extra c.args.settings.max_states c.args.start.words c.give_up.result.learned _ c.args.start.cache.kept c.give_up.result.kept.answers c.give_up.ensures.learned
 
 pub returns-in-Ok-new-clause-plainly : goal.returns-in-Ok-new-clause-plainly
 returns-in-Ok-new-clause-plainly g c =
     let kept = c.learn_and_retire.result.kept.answers in
-    runs_as c.args.settings.kind c.args.settings.suite c.in-Ok-new.pool.inputs (length c.args.command.now.inputs) c.args.settings.extra c.args.settings.max_states c.as_slice.result.now c.args.start.words c.learn_and_retire.result.learned c.in-Ok-new.pool.kept c.args.start.cache.kept
+    runs_as c.args.settings.kind c.args.settings.testing c.in-Ok-new.pool.inputs (length c.args.command.now.inputs) c.args.settings.extra c.args.settings.max_states c.as_slice.result.now c.args.start.words c.learn_and_retire.result.learned c.in-Ok-new.pool.kept c.args.start.cache.kept
     kept kept (c.in-Ok-new.ensures.numbers.0 ∙ c.len-inputs.ensures.value) c.as_slice.ensures c.in-Ok-new.ensures.begun.2 refl c.learn_and_retire.ensures.plainly

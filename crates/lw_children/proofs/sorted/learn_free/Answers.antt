@@ -51,7 +51,7 @@ returns-clause-enough g c =
     let was = c.learn_over-learned.result in
     let found = c.learn_over-learned.ensures.found in
     let s = c.sort_outputs.new in
-    enough_sorted c.args.settings.suite c.args.settings.kind (length c.args.command.now.inputs) (count_of c.args.command.now.outputs) c.args.settings.extra c.args.settings.max_states s.to was.names.names s.names.names (answers_of was.kept.answers) (answers_of s.kept.answers) was.learned s.learned
+    enough_sorted c.args.settings.testing c.args.settings.kind (length c.args.command.now.inputs) (count_of c.args.command.now.outputs) c.args.settings.extra c.args.settings.max_states s.to was.names.names s.names.names (answers_of was.kept.answers) (answers_of s.kept.answers) was.learned s.learned
     c.sort_outputs.ensures.stays found.keeps.words found.ok c.learn_over-learned.ensures.enough
 
 pub returns-in-Err-clause-plainly : goal.returns-in-Err-clause-plainly
@@ -61,5 +61,5 @@ pub returns-clause-plainly : goal.returns-clause-plainly
 returns-clause-plainly g c =
     let was = c.learn_over-learned.result in
     let s = c.sort_outputs.new in
-    plain_sorted c.args.settings.kind c.args.settings.suite (length c.args.command.now.inputs) c.args.settings.extra c.args.settings.max_states c.args.start.words s.to was.names.names s.names.names c.args.start.cache.kept was.kept.answers s.kept.answers was.learned s.learned
+    plain_sorted c.args.settings.kind c.args.settings.testing (length c.args.command.now.inputs) c.args.settings.extra c.args.settings.max_states c.args.start.words s.to was.names.names s.names.names c.args.start.cache.kept was.kept.answers s.kept.answers was.learned s.learned
     c.sort_outputs.ensures.stays c.sort_outputs.ensures.answers c.requires.named_letters c.learn_over-learned.ensures.found.keeps.words c.learn_over-learned.ensures.plainly

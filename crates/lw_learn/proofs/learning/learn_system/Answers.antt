@@ -12,7 +12,7 @@ use Rattle.lw_learn.proofs.learning.learn_system.Goals as goal
 
 pub returns-in-Table-clause-model : goal.returns-in-Table-clause-model
 returns-in-Table-clause-model g c =
-    subst (λ (s : System). IfOk c.learn_table.result.learned (GivesModel c.args.arguments.now.learner c.args.arguments.now.suite (length (letters_of s)) (length c.learn_table.result.names.names) c.args.arguments.now.extra c.args.arguments.now.max_states c.learn_table.result.kept.answers)) (sym c.in-Table.is) (table_gives c.args.arguments.now c.in-Table.machine c.args.start.cache.kept c.learn_table.result.learned c.learn_table.result.kept.answers c.learn_table.result.names.names c.learn_table.ensures.found c.learn_table.ensures.enough)
+    subst (λ (s : System). IfOk c.learn_table.result.learned (GivesModel c.args.arguments.now.learner c.args.arguments.now.testing (length (letters_of s)) (length c.learn_table.result.names.names) c.args.arguments.now.extra c.args.arguments.now.max_states c.learn_table.result.kept.answers)) (sym c.in-Table.is) (table_gives c.args.arguments.now c.in-Table.machine c.args.start.cache.kept c.learn_table.result.learned c.learn_table.result.kept.answers c.learn_table.result.names.names c.learn_table.ensures.found c.learn_table.ensures.enough)
 
 pub returns-in-Table-clause-sizes : goal.returns-in-Table-clause-sizes
 returns-in-Table-clause-sizes g c =
@@ -29,7 +29,7 @@ returns-in-Table-clause-over g c =
 pub returns-in-Children-clause-model : goal.returns-in-Children-clause-model
 returns-in-Children-clause-model g c =
     let m = c.in-Children.command in
-    subst (λ (s : System). IfOk c.learn_command.result.learned (GivesModel c.args.arguments.now.learner c.args.arguments.now.suite (length (letters_of s)) (length c.learn_command.result.names.names) c.args.arguments.now.extra c.args.arguments.now.max_states c.learn_command.result.kept.answers)) (sym c.in-Children.is) (command_gives c.args.arguments.now.learner m.words m.inputs c.args.arguments.now.workers c.args.arguments.now.extra c.args.arguments.now.max_states c.args.start.cache.kept (g.P.Spawner.state c.args.spawner.now) (g.P.Spawner.state c.learn_command.new.spawner) c.learn_command.result.learned c.learn_command.result.kept.answers c.learn_command.result.names.names c.args.arguments.now.suite m.outputs c.learn_command.ensures.found c.learn_command.ensures.enough)
+    subst (λ (s : System). IfOk c.learn_command.result.learned (GivesModel c.args.arguments.now.learner c.args.arguments.now.testing (length (letters_of s)) (length c.learn_command.result.names.names) c.args.arguments.now.extra c.args.arguments.now.max_states c.learn_command.result.kept.answers)) (sym c.in-Children.is) (command_gives c.args.arguments.now.learner m.words m.inputs c.args.arguments.now.workers c.args.arguments.now.extra c.args.arguments.now.max_states c.args.start.cache.kept (g.P.Spawner.state c.args.spawner.now) (g.P.Spawner.state c.learn_command.new.spawner) c.learn_command.result.learned c.learn_command.result.kept.answers c.learn_command.result.names.names c.args.arguments.now.testing m.outputs c.learn_command.ensures.found c.learn_command.ensures.enough)
 
 pub returns-in-Children-clause-sizes : goal.returns-in-Children-clause-sizes
 returns-in-Children-clause-sizes g c =
@@ -58,10 +58,10 @@ pub returns-in-Table-clause-plainly : goal.returns-in-Table-clause-plainly
 returns-in-Table-clause-plainly g c =
     let a = c.args.arguments.now in
     let r = c.learn_table.result in
-    subst (λ (s : System). RunsAsPlain a.learner a.suite (length (letters_of s)) a.extra a.max_states c.args.start.words r.learned c.args.start.cache.kept r.kept.answers) (sym c.in-Table.is) c.learn_table.ensures.plainly
+    subst (λ (s : System). RunsAsPlain a.learner a.testing (length (letters_of s)) a.extra a.max_states c.args.start.words r.learned c.args.start.cache.kept r.kept.answers) (sym c.in-Table.is) c.learn_table.ensures.plainly
 
 pub returns-in-Children-clause-plainly : goal.returns-in-Children-clause-plainly
 returns-in-Children-clause-plainly g c =
     let a = c.args.arguments.now in
     let r = c.learn_command.result in
-    subst (λ (s : System). RunsAsPlain a.learner a.suite (length (letters_of s)) a.extra a.max_states c.args.start.words r.learned c.args.start.cache.kept r.kept.answers) (sym c.in-Children.is) c.learn_command.ensures.plainly
+    subst (λ (s : System). RunsAsPlain a.learner a.testing (length (letters_of s)) a.extra a.max_states c.args.start.words r.learned c.args.start.cache.kept r.kept.answers) (sym c.in-Children.is) c.learn_command.ensures.plainly

@@ -14,12 +14,12 @@ test_with-requires-in-H-clause-crowd g c = has_crowd (answers_of (g.O.Oracle.sta
 
 pub returns-in-W-clause-plainly : goal.returns-in-W-clause-plainly
 returns-in-W-clause-plainly g c =
-    told_by_form c.args.hypothesis.now c.args.settings.suite c.args.settings.extra c.in_ok-model.model (g.O.Oracle.state c.args.oracle.now) (g.O.Oracle.state c.test_with.new.oracle) c.in_ok-model.ensures.alphabets.0 c.in_ok-model.ensures.canonical c.test_with.result c.test_with.ensures.plainly
+    told_by_form c.args.hypothesis.now c.args.settings.testing c.args.settings.extra c.in_ok-model.model (g.O.Oracle.state c.args.oracle.now) (g.O.Oracle.state c.test_with.new.oracle) c.in_ok-model.ensures.alphabets.0 c.in_ok-model.ensures.canonical c.test_with.result c.test_with.ensures.plainly
 
 pub returns-in-Wp-clause-plainly : goal.returns-in-Wp-clause-plainly
 returns-in-Wp-clause-plainly g c =
-    told_by_form c.args.hypothesis.now c.args.settings.suite c.args.settings.extra c.in_ok-model.model (g.O.Oracle.state c.args.oracle.now) (g.O.Oracle.state c.test_with-in-Wp.new.oracle) c.in_ok-model.ensures.alphabets.0 c.in_ok-model.ensures.canonical c.test_with-in-Wp.result c.test_with-in-Wp.ensures.plainly
+    told_by_form c.args.hypothesis.now c.args.settings.testing c.args.settings.extra c.in_ok-model.model (g.O.Oracle.state c.args.oracle.now) (g.O.Oracle.state c.test_with-in-Wp.new.oracle) c.in_ok-model.ensures.alphabets.0 c.in_ok-model.ensures.canonical c.test_with-in-Wp.result c.test_with-in-Wp.ensures.plainly
 
 pub returns-in-H-clause-plainly : goal.returns-in-H-clause-plainly
 returns-in-H-clause-plainly g c =
-    told_by_form c.args.hypothesis.now c.args.settings.suite c.args.settings.extra c.in_ok-model.model (g.O.Oracle.state c.args.oracle.now) (g.O.Oracle.state c.test_with-in-H.new.oracle) c.in_ok-model.ensures.alphabets.0 c.in_ok-model.ensures.canonical c.test_with-in-H.result c.test_with-in-H.ensures.plainly
+    told_by_form c.args.hypothesis.now c.args.settings.testing c.args.settings.extra c.in_ok-model.model (g.O.Oracle.state c.args.oracle.now) (g.O.Oracle.state c.test_with-in-H.new.oracle) c.in_ok-model.ensures.alphabets.0 c.in_ok-model.ensures.canonical c.test_with-in-H.result c.test_with-in-H.ensures.plainly

@@ -28,5 +28,5 @@ returns-in-Err-clause-leaves g c =
 
 pub returns-in-Ok-clause-plainly : goal.returns-in-Ok-clause-plainly
 returns-in-Ok-clause-plainly g c =
-    told_by_suite c.args.hypothesis.now.rows c.args.settings.suite c.args.settings.extra c.args.model (g.S.Chunks.left c.in-Ok.suite) (g.O.Oracle.state c.args.oracle.now) (g.O.Oracle.state c.settle_and_certify.new.oracle)
+    told_by_suite c.args.hypothesis.now.rows c.args.settings.testing c.args.settings.extra c.args.model (g.S.Chunks.left c.in-Ok.suite) (g.O.Oracle.state c.args.oracle.now) (g.O.Oracle.state c.settle_and_certify.new.oracle)
     (rw c.in-Ok.is at c.requires.suite) (rw c.in-Ok.is at c.requires.size) c.settle_and_certify.result c.settle_and_certify.ensures.plainly

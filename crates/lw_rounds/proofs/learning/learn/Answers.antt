@@ -30,7 +30,7 @@ returns-clause-learned g c =
     let l = c.in_ok-learner.learner in
     let o = g.O.Oracle.state c.args.oracle.now in
     let new = new_as c.args.settings.kind c.inputs-inputs.result c.outputs-outputs.result o.inputs o.outputs c.args.settings.max_states l c.inputs-inputs.ensures c.outputs-outputs.ensures c.in_ok-learner.ensures.is_new in
-    learned_from c.args.settings.kind c.args.settings.suite o.inputs o.outputs c.args.settings.extra c.args.settings.max_states ks l l c.learn_from.new.learner c.in_ok-model.model new (record { kind = refl; inputs = refl; outputs = refl; most = refl }) c.in_ok-model.ensures.learned
+    learned_from c.args.settings.kind c.args.settings.testing o.inputs o.outputs c.args.settings.extra c.args.settings.max_states ks l l c.learn_from.new.learner c.in_ok-model.model new (record { kind = refl; inputs = refl; outputs = refl; most = refl }) c.in_ok-model.ensures.learned
 
 pub returns-clause-enough : goal.returns-clause-enough
 returns-clause-enough g c =
@@ -38,11 +38,11 @@ returns-clause-enough g c =
     let l = c.in_ok-learner.learner in
     let o = g.O.Oracle.state c.args.oracle.now in
     let new = new_as c.args.settings.kind c.inputs-inputs.result c.outputs-outputs.result o.inputs o.outputs c.args.settings.max_states l c.inputs-inputs.ensures c.outputs-outputs.ensures c.in_ok-learner.ensures.is_new in
-    enough_from c.args.settings.kind c.args.settings.suite o.inputs o.outputs c.args.settings.extra c.args.settings.max_states ks l l c.learn_from.new.learner c.in_ok-model.model new (record { kind = refl; inputs = refl; outputs = refl; most = refl }) c.in_ok-model.ensures.learned
+    enough_from c.args.settings.kind c.args.settings.testing o.inputs o.outputs c.args.settings.extra c.args.settings.max_states ks l l c.learn_from.new.learner c.in_ok-model.model new (record { kind = refl; inputs = refl; outputs = refl; most = refl }) c.in_ok-model.ensures.learned
 
 pub returns-clause-plainly : goal.returns-clause-plainly
 returns-clause-plainly g c =
     let o = g.O.Oracle.state c.args.oracle.now in
     let n = g.O.Oracle.state c.learn_from.new.oracle in
-    learned_of_kind c.args.settings.kind c.args.settings.suite c.inputs-inputs.result c.outputs-outputs.result o.inputs c.args.settings.extra c.args.settings.max_states c.in_ok-learner.learner c.learn_from.new.learner c.in_ok-model.model.rows o n
+    learned_of_kind c.args.settings.kind c.args.settings.testing c.inputs-inputs.result c.outputs-outputs.result o.inputs c.args.settings.extra c.args.settings.max_states c.in_ok-learner.learner c.learn_from.new.learner c.in_ok-model.model.rows o n
     c.inputs-inputs.ensures c.in_ok-learner.ensures.table c.in_ok-model.ensures.plainly

@@ -3,7 +3,7 @@ use Rattle.std.specs.Prelude.{⊤}
 use Rattle.lw_words.specs.Word.{Answer, answers_of}
 use Rattle.lw_mealy.specs.Machine.{MealyMachine}
 use Rattle.lw_cache.proofs.SettlingLemmas.{leaves_then}
-use Rattle.lw_chunks.specs.declared.method.Method.{Method}
+use Rattle.lw_rounds.specs.declared.settings.Testing.{Testing}
 use Rattle.lw_rounds.specs.Learner.{inputs_of, outputs_of, most_of}
 use Rattle.lw_rounds.specs.Stops.{of_growth, learn_stop}
 use Rattle.lw_rounds.specs.bodies.Rounds.{IsAlike, IsLearnedFrom, StopsFrom}
@@ -14,9 +14,9 @@ use Rattle.lw_rounds.proofs.RoundLemmas.{growth_as, learned_alike, ready_after, 
 use Rattle.lw_rounds.proofs.PlainLemmas.{learned_from_new}
 use Rattle.lw_rounds.proofs.learning.learn_from.Goals as goal
 
-module _ (l m n : Learner) (method : Method) (k : ℕ) (ks : List Answer) (alike : IsAlike l m) where
-  learned_since : (result : Result MealyMachine LearnStop) → IfOk result (λ model. IsLearnedFrom m method k ks model n) → IfOk result (λ model. IsLearnedFrom l method k ks model n)
-  learned_since (Ok model) is = learned_alike l m n method k ks model alike is
+module _ (l m n : Learner) (testing : Testing) (k : ℕ) (ks : List Answer) (alike : IsAlike l m) where
+  learned_since : (result : Result MealyMachine LearnStop) → IfOk result (λ model. IsLearnedFrom m testing k ks model n) → IfOk result (λ model. IsLearnedFrom l testing k ks model n)
+  learned_since (Ok model) is = learned_alike l m n testing k ks model alike is
   learned_since (Err stop) is = tt
 
   stops_since : (result : Result MealyMachine LearnStop) → IfErr result (StopsFrom m k ks) → IfErr result (StopsFrom l k ks)
@@ -45,10 +45,10 @@ returns g c =
     let l = c.args.learner.now in
     let alike = c.in_ok-close.ensures.grows.alike in
     record {
-      learned = learned_since l c.close.new.self c.rounds.new.learner c.args.settings.suite c.args.settings.extra ks alike c.rounds.result c.rounds.ensures.learned;
-      plainly = learned_from_new l c.close.new.self c.rounds.new.learner c.args.settings.suite c.args.settings.extra (g.O.Oracle.state c.args.oracle.now) (g.O.Oracle.state c.close.new.oracle) (g.O.Oracle.state c.rounds.new.oracle) c.rounds.ensures.leaves.gained
+      learned = learned_since l c.close.new.self c.rounds.new.learner c.args.settings.testing c.args.settings.extra ks alike c.rounds.result c.rounds.ensures.learned;
+      plainly = learned_from_new l c.close.new.self c.rounds.new.learner c.args.settings.testing c.args.settings.extra (g.O.Oracle.state c.args.oracle.now) (g.O.Oracle.state c.close.new.oracle) (g.O.Oracle.state c.rounds.new.oracle) c.rounds.ensures.leaves.gained
           alike c.in_ok-close.ensures.plainly c.in_ok-close.ensures.leaves.same.exact c.rounds.ensures.leaves.at_end c.rounds.result c.rounds.ensures.plainly;
-      stops = stops_since l c.close.new.self c.rounds.new.learner c.args.settings.suite c.args.settings.extra ks alike c.rounds.result c.rounds.ensures.stops;
+      stops = stops_since l c.close.new.self c.rounds.new.learner c.args.settings.testing c.args.settings.extra ks alike c.rounds.result c.rounds.ensures.stops;
       leaves = leaves_then (g.O.Oracle.state c.args.oracle.now) (g.O.Oracle.state c.close.new.oracle) (g.O.Oracle.state c.rounds.new.oracle) (learn_stop c.rounds.result) c.in_ok-close.ensures.leaves c.rounds.ensures.leaves;
       can = c.rounds.ensures.can;
     }

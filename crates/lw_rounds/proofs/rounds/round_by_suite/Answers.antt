@@ -30,7 +30,7 @@ returns-in-Sure-clause-goes g c =
     let before = g.O.Oracle.state c.args.oracle.now in
     let now = g.O.Oracle.state c.test_by_suite.new.oracle in
     let l = c.args.learner.now in
-    is_learned now l c.args.hypothesis.now c.in-Sure.model c.args.settings.suite c.args.settings.extra (ready_more before now l c.in_ok-word.ensures.leaves c.requires.ready) c.requires.settled
+    is_learned now l c.args.hypothesis.now c.in-Sure.model c.args.settings.testing c.args.settings.extra (ready_more before now l c.in_ok-word.ensures.leaves c.requires.ready) c.requires.settled
     c.requires.machine c.inputs.ensures.complete.machine c.requires.inputs c.requires.outputs (rw c.in-Sure.is at c.in_ok-word.ensures.tested)
 
 pub returns-in_err-refine-in-Differs-clause-stops : goal.returns-in_err-refine-in-Differs-clause-stops
@@ -55,12 +55,12 @@ returns-in_ok-refine-in-Differs-clause-plainly g c =
     let b = g.O.Oracle.state c.test_by_suite.new.oracle in
     let n = g.O.Oracle.state c.refine.new.oracle in
     let done = c.in_ok-refine-in-Differs.ensures in
-    goes_by_suite c.args.hypothesis.now c.args.learner.now c.args.settings.suite c.args.settings.extra o b c.requires.ready c.requires.machine c.requires.inputs c.requires.gives c.in-Differs.word c.refine.new.learner n done.leaves.gained
+    goes_by_suite c.args.hypothesis.now c.args.learner.now c.args.settings.testing c.args.settings.extra o b c.requires.ready c.requires.machine c.requires.inputs c.requires.gives c.in-Differs.word c.refine.new.learner n done.leaves.gained
     (rw c.in-Differs.is at c.in_ok-word.ensures.plainly) c.in_ok-word.ensures.leaves.same.exact done.leaves.at_end done.plainly
 
 pub returns-in-Sure-clause-plainly : goal.returns-in-Sure-clause-plainly
 returns-in-Sure-clause-plainly g c =
     let o = g.O.Oracle.state c.args.oracle.now in
     let b = g.O.Oracle.state c.test_by_suite.new.oracle in
-    ends_by_suite c.args.hypothesis.now c.args.learner.now c.args.settings.suite c.args.settings.extra o b c.requires.ready c.requires.machine c.requires.inputs c.requires.gives c.in-Sure.model
+    ends_by_suite c.args.hypothesis.now c.args.learner.now c.args.settings.testing c.args.settings.extra o b c.requires.ready c.requires.machine c.requires.inputs c.requires.gives c.in-Sure.model
     (rw c.in-Sure.is at c.in_ok-word.ensures.plainly)

@@ -93,20 +93,20 @@ returns-in-Some-clause-plainly g c =
     let n = g.O.Oracle.state c.refine.new.oracle in
     let h = c.args.hypothesis.now.rows in
     let done = c.in_ok-refine.ensures in
-    goes_by_known h c.in-Some.word c.args.learner.now c.refine.new.learner c.args.settings.suite c.args.settings.extra o n done.leaves.gained c.requires.ready c.requires.machine
+    goes_by_known h c.in-Some.word c.args.learner.now c.refine.new.learner c.args.settings.testing c.args.settings.extra o n done.leaves.gained c.requires.ready c.requires.machine
     (subst (λ (kept : List KeptAnswer). DiffersFirst h (answers_of kept) (Some c.in-Some.word)) c.cache.ensures.kept (rw c.in-Some.is at c.in_ok-word.ensures)) done.leaves.at_end done.plainly
 
 pub returns-in-Replaced-clause-plainly : goal.returns-in-Replaced-clause-plainly
 returns-in-Replaced-clause-plainly g c =
-    replaced_goes c.args.learner.now c.settle.new.self c.args.settings.suite c.args.settings.extra (g.O.Oracle.state c.args.oracle.now) (g.O.Oracle.state c.settle.new.oracle) c.in_ok-settle.ensures.grows.alike (rw c.in-Replaced.is at c.in_ok-settle.ensures.settles)
+    replaced_goes c.args.learner.now c.settle.new.self c.args.settings.testing c.args.settings.extra (g.O.Oracle.state c.args.oracle.now) (g.O.Oracle.state c.settle.new.oracle) c.in_ok-settle.ensures.grows.alike (rw c.in-Replaced.is at c.in_ok-settle.ensures.settles)
 
 pub returns-in-NoBlock-clause-plainly : goal.returns-in-NoBlock-clause-plainly
 returns-in-NoBlock-clause-plainly g c =
     let o = g.O.Oracle.state c.args.oracle.now in
     let b = g.O.Oracle.state c.settle.new.oracle in
     let n = g.O.Oracle.state c.round_by_suite.new.oracle in
-    let suites = c.args.settings.suite in
+    let testing = c.args.settings.testing in
     let k = c.args.settings.extra in
     let settled = rw c.in-NoBlock.is at c.in_ok-settle.ensures.settles in
-    subst (λ (l : Learner). IfOk c.round_by_suite.result (λ found. RoundsAsPlain l c.round_by_suite.new.learner suites k found o n)) settled.1
-    (subst (λ (p : OracleState). IfOk c.round_by_suite.result (λ found. RoundsAsPlain c.settle.new.self c.round_by_suite.new.learner suites k found p n)) (c.in_ok-settle.ensures.unasked c.in-NoBlock.is) c.round_by_suite.ensures.plainly)
+    subst (λ (l : Learner). IfOk c.round_by_suite.result (λ found. RoundsAsPlain l c.round_by_suite.new.learner testing k found o n)) settled.1
+    (subst (λ (p : OracleState). IfOk c.round_by_suite.result (λ found. RoundsAsPlain c.settle.new.self c.round_by_suite.new.learner testing k found p n)) (c.in_ok-settle.ensures.unasked c.in-NoBlock.is) c.round_by_suite.ensures.plainly)

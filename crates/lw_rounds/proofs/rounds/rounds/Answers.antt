@@ -29,7 +29,7 @@ loop-model-init g c =
     record {
       ready = c.requires.ready;
       alike = search rules;
-      plainly = goes_nowhere c.args.learner.now c.args.settings.suite c.args.settings.extra (g.O.Oracle.state c.args.oracle.now);
+      plainly = goes_nowhere c.args.learner.now c.args.settings.testing c.args.settings.extra (g.O.Oracle.state c.args.oracle.now);
       leaves = leaves_nothing (g.O.Oracle.state c.args.oracle.now) c.requires.ready.keeps c.requires.ready.may;
       can = c.requires.can;
     }
@@ -40,7 +40,7 @@ loop-model-preserved g c =
     record {
       ready = c.in_ok-model.ensures.ready;
       alike = alike_then c.args.learner.now c.loop-model.learner c.round.new.learner i.alike c.round.ensures.alike;
-      plainly = goes_then c.args.learner.now c.loop-model.learner c.round.new.learner c.args.settings.suite c.args.settings.extra (g.O.Oracle.state c.args.oracle.now) (g.O.Oracle.state c.loop-model.oracle) (g.O.Oracle.state c.round.new.oracle) c.in_ok-model.ensures.leaves.gained
+      plainly = goes_then c.args.learner.now c.loop-model.learner c.round.new.learner c.args.settings.testing c.args.settings.extra (g.O.Oracle.state c.args.oracle.now) (g.O.Oracle.state c.loop-model.oracle) (g.O.Oracle.state c.round.new.oracle) c.in_ok-model.ensures.leaves.gained
           i.alike i.leaves.same.exact c.in_ok-model.ensures.leaves.at_end i.plainly (rw c.in_default.is at c.in_ok-model.ensures.plainly);
       leaves = leaves_then (g.O.Oracle.state c.args.oracle.now) (g.O.Oracle.state c.loop-model.oracle) (g.O.Oracle.state c.round.new.oracle) None i.leaves c.in_ok-model.ensures.leaves;
       can = c.in_ok-model.ensures.can;
@@ -49,5 +49,5 @@ loop-model-preserved g c =
 pub returns-in-Some-clause-plainly : goal.returns-in-Some-clause-plainly
 returns-in-Some-clause-plainly g c =
     let i = c.loop-model.invariant in
-    ends_then c.args.learner.now c.loop-model.learner c.round.new.learner c.args.settings.suite c.args.settings.extra (g.O.Oracle.state c.args.oracle.now) (g.O.Oracle.state c.loop-model.oracle) (g.O.Oracle.state c.round.new.oracle) c.in_ok-model.ensures.leaves.gained
+    ends_then c.args.learner.now c.loop-model.learner c.round.new.learner c.args.settings.testing c.args.settings.extra (g.O.Oracle.state c.args.oracle.now) (g.O.Oracle.state c.loop-model.oracle) (g.O.Oracle.state c.round.new.oracle) c.in_ok-model.ensures.leaves.gained
     i.alike i.leaves.same.exact c.in_ok-model.ensures.leaves.at_end i.plainly c.in-Some.model.rows (rw c.in-Some.is at c.in_ok-model.ensures.plainly)

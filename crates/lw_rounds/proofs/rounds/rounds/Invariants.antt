@@ -8,7 +8,7 @@ abbrev pub invariant-loop-model : goal.invariant-loop-model
 invariant-loop-model g l = record {
   ready : IsReady (g.O.Oracle.state l.oracle) l.learner;
   alike : IsAlike l.initial.learner l.learner;
-  plainly : GoesAsPlain l.initial.learner l.learner l.settings.suite l.settings.extra (g.O.Oracle.state l.initial.oracle) (g.O.Oracle.state l.oracle);
+  plainly : GoesAsPlain l.initial.learner l.learner l.settings.testing l.settings.extra (g.O.Oracle.state l.initial.oracle) (g.O.Oracle.state l.oracle);
   leaves : Leaves (g.O.Oracle.state l.initial.oracle) (g.O.Oracle.state l.oracle) None;
   can : g.O.Oracle.can_settle l.oracle;
 }

@@ -2,7 +2,8 @@ use Rattle.std.proofs.Common.{◌∙◌, List, [], Ok, Err, IfOk, Result, Some, 
 use Rattle.lw_words.specs.Word.{answers_of}
 use Rattle.lw_words.specs.declared.kept.KeptAnswer.{KeptAnswer}
 use Rattle.lw_mealy.specs.Machine.{MealyMachine}
-use Rattle.lw_chunks.specs.declared.method.Method.{Method}
+use Rattle.lw_rounds.specs.Plain.{by_suites}
+use Rattle.lw_rounds.specs.declared.settings.Testing.{Testing}
 use Rattle.lw_rounds.specs.Learned.{IsEnoughFor}
 use Rattle.lw_names.specs.Naming.{Naming}
 use Rattle.lw_workers.specs.Machines.{KeepsRuns}
@@ -43,16 +44,16 @@ report-requires-clause-plainly g c =
     } in
     let ok = subst (λ (r : Result Learned LearnStop). HasCome c.args.drawn.now.machine c.workers.result kept r) c.in-Ok.is all in
     let has = of_drawn v c.args.drawn.now.machine c.workers.result kept (Ok c.in-Ok.learned) c.requires.machine c.workers.ensures.value ok in
-    let runs = plain_drawn v c.learner.result c.suite.result c.args.drawn.now.machine.inputs c.new-2.result c.learn_machine-learned.result.learned c.new.result.kept kept c.learner.ensures c.suite.ensures (ap (λ (m : MealyMachine). m.inputs) c.requires.machine) c.new-2.ensures c.new.ensures.kept came.plainly in
-    plain_tried v kept c.in-Ok.learned has (subst (λ (r : Result Learned LearnStop). RunsAsPlain v.learner v.suite v.inputs 1 1024 [] r [] kept) c.in-Ok.is runs)
+    let runs = plain_drawn v c.learner.result c.by.result c.args.drawn.now.machine.inputs c.new-2.result c.learn_machine-learned.result.learned c.new.result.kept kept c.learner.ensures (c.by.ensures ∙ ap by_suites c.suite.ensures) (ap (λ (m : MealyMachine). m.inputs) c.requires.machine) c.new-2.ensures c.new.ensures.kept came.plainly in
+    plain_tried v kept c.in-Ok.learned has (subst (λ (r : Result Learned LearnStop). RunsAsPlain v.learner (by_suites v.suite) v.inputs 1 1024 [] r [] kept) c.in-Ok.is runs)
 
 pub report-requires-clause-enough : goal.report-requires-clause-enough
 report-requires-clause-enough g c =
     let kept = c.learn_machine-learned.result.kept.answers in
-    let by = c.suite.result in
+    let by = c.by.result in
     let enough = subst (λ (r : Result Learned LearnStop). IfOk r (λ l. IsEnoughFor by c.args.drawn.now.machine.inputs 1 (answers_of kept) l.model)) c.in-Ok.is c.learn_machine-learned.ensures.enough in
-    subst (λ (m : MealyMachine). IsEnoughFor c.args.arguments.now.suite m.inputs 1 (answers_of kept) c.in-Ok.learned.model) c.requires.machine
-    (subst (λ (m : Method). IsEnoughFor m c.args.drawn.now.machine.inputs 1 (answers_of kept) c.in-Ok.learned.model) c.suite.ensures enough)
+    subst (λ (m : MealyMachine). IsEnoughFor (by_suites c.args.arguments.now.suite) m.inputs 1 (answers_of kept) c.in-Ok.learned.model) c.requires.machine
+    (subst (λ (t : Testing). IsEnoughFor t c.args.drawn.now.machine.inputs 1 (answers_of kept) c.in-Ok.learned.model) (c.by.ensures ∙ ap by_suites c.suite.ensures) enough)
 
 pub returns-in-Err-clause-ran : goal.returns-in-Err-clause-ran
 returns-in-Err-clause-ran g c =

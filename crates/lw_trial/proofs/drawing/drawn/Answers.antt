@@ -2,9 +2,9 @@ use Rattle.std.proofs.Common.{rules, ◌≡◌, ◌∷◌, [], ℕ, map, ap, sym
 use Rattle.std.specs.List.{range_with_len}
 use Rattle.std.proofs.lemmas.List.{map-append}
 use Rattle.lw_mealy.specs.Machine.{IsWithinLimits, mealy_of, Rows}
-use Rattle.lw_wordlist.specs.Drawn.{seeded}
+use Rattle.lw_draw.specs.Drawn.{seeded}
 use Rattle.lw_trial.specs.Drawn.{words_before, drawn_row, drawn_rows}
-use Rattle.lw_wordlist.proofs.DrawLemmas.{none_yet}
+use Rattle.lw_draw.proofs.DrawLemmas.{none_yet}
 use Rattle.lw_trial.proofs.DrawnLemmas.{row_more, rows_words, drawn_within}
 use Rattle.lw_trial.proofs.drawing.drawn.Goals as goal
 

@@ -1,6 +1,6 @@
 use Rattle.std.proofs.Common.{◌≡◌, map}
 use Rattle.std.specs.List.{range_with_len}
-use Rattle.lw_wordlist.specs.Drawn.{after_draws, seeded}
+use Rattle.lw_draw.specs.Drawn.{after_draws, seeded}
 use Rattle.lw_trial.specs.Drawn.{words_before, drawn_row}
 use Rattle.lw_trial.proofs.drawing.drawn.Given as goal
 

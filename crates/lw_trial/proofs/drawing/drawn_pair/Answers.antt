@@ -1,7 +1,7 @@
 use Rattle.std.proofs.Common.{◌≡◌, ◌%◌, ◌∙◌, ℕ, ap, ap₂}
 use Rattle.rand_pcg.specs.Lcg.{Lcg}
-use Rattle.lw_wordlist.specs.Drawn.{after_draws, draw_at}
-use Rattle.lw_wordlist.proofs.DrawLemmas.{draw_then, draws_then}
+use Rattle.lw_draw.specs.Drawn.{after_draws, draw_at}
+use Rattle.lw_draw.proofs.DrawLemmas.{draw_then, draws_then}
 use Rattle.lw_trial.proofs.drawing.drawn_pair.Goals as goal
 
 pub returns-clause-target : goal.returns-clause-target

@@ -1,9 +1,9 @@
 use Rattle.std.proofs.Common.{rules, ◌≡◌, ◌*◌, ◌-◌, ◌∷◌, ◌++◌, [], ℕ, map, refl, ap, ◌∙◌, subst, arith}
 use Rattle.std.specs.List.{range_with_len}
 use Rattle.lw_mealy.specs.Machine.{Row}
-use Rattle.lw_wordlist.specs.Drawn.{after_draws}
+use Rattle.lw_draw.specs.Drawn.{after_draws}
 use Rattle.lw_trial.specs.Drawn.{drawn_cell}
-use Rattle.lw_wordlist.proofs.DrawLemmas.{none_yet}
+use Rattle.lw_draw.proofs.DrawLemmas.{none_yet}
 use Rattle.lw_trial.proofs.DrawnLemmas.{cell_more, words_more, first_cell}
 use Rattle.lw_trial.proofs.drawing.drawn_state.Goals as goal
 

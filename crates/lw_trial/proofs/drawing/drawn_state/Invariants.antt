@@ -1,6 +1,6 @@
 use Rattle.std.proofs.Common.{◌≡◌, ◌*◌, ◌-◌, ◌<◌, map}
 use Rattle.std.specs.List.{range_with_len}
-use Rattle.lw_wordlist.specs.Drawn.{after_draws}
+use Rattle.lw_draw.specs.Drawn.{after_draws}
 use Rattle.lw_trial.specs.Drawn.{drawn_cell}
 use Rattle.lw_trial.proofs.drawing.drawn_state.Given as goal
 

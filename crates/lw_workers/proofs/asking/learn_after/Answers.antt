@@ -26,7 +26,7 @@ returns-clause-enough g c =
     let before = g.O.Oracle.state c.args.oracle.now in
     let between = g.O.Oracle.state c.settle_named.new.oracle in
     let now = g.O.Oracle.state c.learn.new.oracle in
-    enough_as c.args.settings.suite between.inputs before.inputs c.args.settings.extra now.kept now.kept c.learn.result c.in_ok-settle_named.ensures.leaves.same.inputs refl c.learn.ensures.enough
+    enough_as c.args.settings.testing between.inputs before.inputs c.args.settings.extra now.kept now.kept c.learn.result c.in_ok-settle_named.ensures.leaves.same.inputs refl c.learn.ensures.enough
 
 pub returns-clause-plainly : goal.returns-clause-plainly
 returns-clause-plainly g c =
@@ -34,5 +34,5 @@ returns-clause-plainly g c =
     let between = g.O.Oracle.state c.settle_named.new.oracle in
     let now = g.O.Oracle.state c.learn.new.oracle in
     let first = c.in_ok-settle_named.ensures in
-    learns_given c.args.settings.kind c.args.settings.suite before.inputs between.inputs c.args.settings.extra c.args.settings.max_states c.args.words.now before between now c.learn.ensures.leaves.gained first.leaves.same.inputs first.plainly first.leaves.same.exact
+    learns_given c.args.settings.kind c.args.settings.testing before.inputs between.inputs c.args.settings.extra c.args.settings.max_states c.args.words.now before between now c.learn.ensures.leaves.gained first.leaves.same.inputs first.plainly first.leaves.same.exact
     c.learn.ensures.leaves.at_end c.learn.result c.learn.ensures.plainly

@@ -26,4 +26,4 @@ returns-clause-leaves g c = has_learned c.args.pool c.learn_after-learned.new.or
 
 pub returns-clause-plainly : goal.returns-clause-plainly
 returns-clause-plainly g c =
-    runs_as_plain c.args.settings.kind c.args.settings.suite c.args.pool.inputs c.args.settings.extra c.args.settings.max_states c.args.words.now c.args.pool c.learn_after-learned.new.oracle.pool c.learn_after-learned.result c.learn_after-learned.ensures.plainly
+    runs_as_plain c.args.settings.kind c.args.settings.testing c.args.pool.inputs c.args.settings.extra c.args.settings.max_states c.args.words.now c.args.pool c.learn_after-learned.new.oracle.pool c.learn_after-learned.result c.learn_after-learned.ensures.plainly

@@ -23,7 +23,7 @@ pub returns-clause-enough : goal.returns-clause-enough
 returns-clause-enough g c =
     let learned = c.learn_with-learned.ensures in
     let parts = c.into_parts-left.ensures in
-    enough_as c.args.settings.suite c.in-Ok.pool.inputs c.args.system.now.inputs c.args.settings.extra c.learn_with-learned.result.pool.kept c.into_kept-2.result.answers c.learn_with-learned.result.learned c.in-Ok.ensures.pool.inputs (sym (c.into_kept-2.ensures ∙ parts.cache.0)) learned.enough
+    enough_as c.args.settings.testing c.in-Ok.pool.inputs c.args.system.now.inputs c.args.settings.extra c.learn_with-learned.result.pool.kept c.into_kept-2.result.answers c.learn_with-learned.result.learned c.in-Ok.ensures.pool.inputs (sym (c.into_kept-2.ensures ∙ parts.cache.0)) learned.enough
 
 pub returns-clause-stops : goal.returns-clause-stops
 returns-clause-stops g c =
@@ -77,5 +77,5 @@ returns-in-Err-clause-plainly g c = λ is_table by_w none m machine gives. tt
 pub returns-clause-plainly : goal.returns-clause-plainly
 returns-clause-plainly g c =
     let pool = c.in-Ok.ensures.pool in
-    runs_as c.args.settings.kind c.args.settings.suite c.in-Ok.pool.inputs c.args.system.now.inputs c.args.settings.extra c.args.settings.max_states c.as_slice.result.now c.args.start.words c.learn_with-learned.result.learned c.in-Ok.pool.kept c.args.start.cache.kept
+    runs_as c.args.settings.kind c.args.settings.testing c.in-Ok.pool.inputs c.args.system.now.inputs c.args.settings.extra c.args.settings.max_states c.as_slice.result.now c.args.start.words c.learn_with-learned.result.learned c.in-Ok.pool.kept c.args.start.cache.kept
     c.learn_with-learned.result.pool.kept c.into_kept-2.result.answers pool.inputs c.as_slice.ensures pool.kept (sym (c.into_kept-2.ensures ∙ c.into_parts-left.ensures.cache.0)) c.learn_with-learned.ensures.plainly

@@ -1,7 +1,8 @@
 //! The numbers of a seed.
-ghost use Rattle.std.specs.Prelude.{◌≡◌};
-ghost use Rattle.lw_wordlist.specs.Drawn.{after_draws, draw_at, seeded};
+ghost use Rattle.std.specs.Prelude.{◌≡◌, IfOk};
+ghost use Rattle.lw_draw.specs.Drawn.{after_draws, draw_at, seeded};
 
+use lw_words::NoMemory;
 use rand_core::SeedableRng;
 use rand_core::utils::NextWord;
 use rand_pcg::Lcg128Xsl64;
@@ -30,6 +31,22 @@ impl Generator {
         Generator {
             pcg: Lcg128Xsl64::seed_from_u64(seed),
         }
+    }
+
+    /// The same numbers from here on.
+    pub fn copy(&self) -> Result<Generator, NoMemory>
+        ensures { IfOk result (λ g. g ≡ self.now) }
+    {
+        Ok(Generator {
+            pcg: self.pcg.clone()?,
+        })
+    }
+
+    /// Passes over this many numbers, in a time that grows as the logarithm of how many they are.
+    pub fn skip(&mut self, count: u128)
+        ensures { self.new ≡ after_draws self.old count }
+    {
+        self.pcg.advance(count);
     }
 
     /// The next number.

@@ -1,11 +1,18 @@
 //! Words that are drawn by a number.
 ghost use Rattle.std.specs.Prelude.{◌≡◌, ◌%◌, ◌<◌, ◌≤◌, ◌++◌, IfOk, OnOk};
-ghost use Rattle.lw_wordlist.specs.Drawn.{after_draws, draw_at, drawn_word, drawn_words};
+ghost use Rattle.lw_draw.specs.Drawn.{after_draws, draw_at, drawn_word, drawn_words};
 
 use crate::Generator;
-use crate::words::push_word;
 use lw_words::{NoMemory, Word, Words};
 use std::alloc::Global;
+
+/// Words that are drawn: how many, how many letters are drawn for each, and the seed of the generator.
+#[derive(Clone, Copy, Debug, PartialEq, Eq)]
+pub struct Drawn {
+    pub count: u32,
+    pub length: u32,
+    pub seed: u64,
+}
 
 /// A letter: what the next number leaves when it is divided by the number of inputs.
 fn draw_letter(random: &mut Generator, inputs: u16) -> u16
@@ -15,6 +22,23 @@ fn draw_letter(random: &mut Generator, inputs: u16) -> u16
 {
     let number = random.draw() % u64::from(inputs);
     number as u16
+}
+
+/// Appends this many letters.
+pub(crate) fn draw_letters(
+    word: &mut Word,
+    random: &mut Generator,
+    inputs: u16,
+    count: u32,
+) -> Result<(), NoMemory>
+    requires { 1 ≤ inputs }
+    ensures word { OnOk result (word.new ≡ word.old ++ drawn_word inputs count random.old) }
+    ensures random { OnOk result (random.new ≡ after_draws random.old count) }
+{
+    for _ in 0..count {
+        word.push(draw_letter(random, inputs))?;
+    }
+    Ok(())
 }
 
 /// A word of this many letters.
@@ -29,9 +53,7 @@ fn draw_word(
     ensures random { OnOk result (random.new ≡ after_draws random.old word_length) }
 {
     let mut word = Word::new(alloc);
-    for _ in 0..word_length {
-        word.push(draw_letter(random, inputs))?;
-    }
+    draw_letters(&mut word, random, inputs, word_length)?;
     Ok(word)
 }
 
@@ -53,8 +75,7 @@ pub fn draw_words(
 {
     let mut random = Generator::of_seed(seed);
     for _ in 0..count {
-        let word = draw_word(alloc, &mut random, inputs, word_length)?;
-        push_word(words, word)?;
+        words.push(draw_word(alloc, &mut random, inputs, word_length)?)?;
     }
     Ok(())
 }

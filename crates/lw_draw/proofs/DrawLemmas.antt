@@ -8,7 +8,7 @@ use Rattle.std.proofs.lemmas.List.Elements.{All-from_get_or}
 use Rattle.rand_pcg.specs.Lcg.{Lcg, next, next_state, state_after}
 use Rattle.rand_pcg.specs.Pcg.{multiplier_128, pcg64}
 use Rattle.lw_words.specs.Word.{IsWord}
-use Rattle.lw_wordlist.specs.Drawn.{seeded, after_draws, draw_at, drawn_word, drawn_words}
+use Rattle.lw_draw.specs.Drawn.{seeded, after_draws, draw_at, drawn_word, drawn_words}
 
 -- steps one after the other
 state_then : (w m p i k s : ℕ) → state_after w m p (i + k) s ≡ state_after w m p k (state_after w m p i s)
@@ -48,11 +48,23 @@ pub draws_more : (g random now : Lcg) (k m n : ℕ) → k + m ≡ n → random �
 draws_more g random now k m n sum at is = is ∙ (ap (λ (h : Lcg). after_draws h m) at ∙ (draws_then g k m ∙ ap (after_draws g) sum))
 
 -- one letter more
-pub letter_more : (g random : Lcg) (a k letter : ℕ) (word now : List ℕ) → random ≡ after_draws g k → word ≡ drawn_word a k g → letter ≡ draw_at random 0 % a → now ≡ word ++ letter ∷ [] → now ≡ drawn_word a (k + 1) g
+letter_more : (g random : Lcg) (a k letter : ℕ) (word now : List ℕ) → random ≡ after_draws g k → word ≡ drawn_word a k g → letter ≡ draw_at random 0 % a → now ≡ word ++ letter ∷ [] → now ≡ drawn_word a (k + 1) g
 letter_more g random a k letter word now at was is grown =
     let none : k + 0 ≡ k = omega arith in
     let here : draw_at random 0 ≡ draw_at g k = ap (λ (h : Lcg). draw_at h 0) at ∙ (ap (λ (h : Lcg). (pcg64 h).0) (draws_then g k 0) ∙ ap (draw_at g) none) in
     grown ∙ (ap₂ (λ (l : List ℕ) (x : ℕ). l ++ x ∷ []) was (is ∙ ap (λ (w : ℕ). w % a) here) ∙ sym (map-range_with_len_more (λ i. draw_at g i % a) 0 k k (omega arith)))
+
+-- one letter more behind others
+pub letter_behind : (g random : Lcg) (a k letter : ℕ) (before word now : List ℕ) → random ≡ after_draws g k → word ≡ before ++ drawn_word a k g → letter ≡ draw_at random 0 % a → now ≡ word ++ letter ∷ [] → now ≡ before ++ drawn_word a (k + 1) g
+letter_behind g random a k letter before word now at was is grown =
+    grown
+    ∙ (ap (λ (l : List ℕ). l ++ letter ∷ []) was
+    ∙ (append_assoc before (drawn_word a k g) (letter ∷ [])
+    ∙ ap (λ (l : List ℕ). before ++ l) (letter_more g random a k letter (drawn_word a k g) (drawn_word a k g ++ letter ∷ []) at refl is refl)))
+
+-- no letter yet
+pub no_letter : (a : ℕ) (g : Lcg) (before : List ℕ) → before ≡ before ++ drawn_word a 0 g
+no_letter a g before = sym (append-nil before)
 
 -- one word more
 word_more : (random : Lcg) (a n seed k : ℕ) (word : List ℕ) (words now : List (List ℕ)) → random ≡ after_draws (seeded seed) (k * n) → words ≡ drawn_words a k n seed → word ≡ drawn_word a n random → now ≡ words ++ word ∷ [] → now ≡ drawn_words a (k + 1) n seed
@@ -74,7 +86,7 @@ word_behind random a n seed k word before words now at was is grown =
 length-drawn_word : (a n : ℕ) (g : Lcg) → length (drawn_word a n g) ≡ n
 length-drawn_word a n g = length-map (range_with_len 0 n) (λ i. draw_at g i % a) ∙ length-range_with_len 0 n
 
-drawn_below : (a n : ℕ) (g : Lcg) → 1 ≤ a → IsWord a (drawn_word a n g)
+pub drawn_below : (a n : ℕ) (g : Lcg) → 1 ≤ a → IsWord a (drawn_word a n g)
 drawn_below a n g some = All-from_get_or (λ x. x < a) (drawn_word a n g) 0 (λ k lt.
     let letter : ℕ = get_or (range_with_len 0 n) k 0 in
     let is : get_or (drawn_word a n g) k 0 ≡ draw_at g letter % a = get_or-map (λ i. draw_at g i % a) (range_with_len 0 n) k 0 0 (omega (arith, lt, length-drawn_word a n g, length-range_with_len 0 n)) in

@@ -1,6 +1,6 @@
 use Rattle.std.proofs.Common.{◌≡◌, ◌*◌, ◌++◌}
-use Rattle.lw_wordlist.specs.Drawn.{after_draws, drawn_words, seeded}
-use Rattle.lw_wordlist.proofs.drawing.draw_words.Given as goal
+use Rattle.lw_draw.specs.Drawn.{after_draws, drawn_words, seeded}
+use Rattle.lw_draw.proofs.drawing.draw_words.Given as goal
 
 abbrev pub invariant-loop : goal.invariant-loop
 invariant-loop l = record {

@@ -1,0 +1,3 @@
+pub mod Drawn
+pub mod Walks
+pub mod bodies
