@@ -10,6 +10,7 @@ mod prior;
 mod report;
 mod serve;
 mod views;
+mod walks;
 mod wordlist;
 
 use lw_json::{Machine, machine_text, read_machine};

@@ -8,7 +8,7 @@ use lw_learn::{LearnArguments, LearnFiles, bad_is_refused, learn, told_is_learne
 use lw_log::{Log, MemoryLog};
 use lw_outside::{MemoryFiles, MemorySink, MemorySpawner, World};
 use lw_report::{End, Outcome};
-use lw_rounds::{Kind, Learner, Settings};
+use lw_rounds::{Kind, Learner, Settings, Testing};
 use lw_system::{Goal, Source};
 use std::alloc::Global;
 use std::process::Abort;
@@ -222,7 +222,7 @@ fn limited<R: Abort + Threads + Wait + Sync + Copy + Drop>(
         kind: Kind::Table,
         extra: 1,
         max_states,
-        suite: Method::W,
+        testing: Testing::by(Method::W),
     };
     let arguments = bare(Source::Table, string(&rt, alloc, "m"), settings);
     call(rt, alloc, &arguments, outside)
@@ -239,7 +239,7 @@ fn told<R: Abort + Threads + Wait + Sync + Copy + Drop>(
         kind: Kind::Table,
         extra: 0,
         max_states: 8,
-        suite: Method::W,
+        testing: Testing::by(Method::W),
     };
     let arguments = bare(Source::Setup, string(&rt, alloc, "m"), settings);
     call(rt, alloc, &arguments, outside)

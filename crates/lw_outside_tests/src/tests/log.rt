@@ -13,7 +13,7 @@ struct Told {
     line: &'static str,
 }
 
-static STEPS: [Told; 5] = [
+static STEPS: [Told; 6] = [
     Told {
         step: Step {
             round: 0,
@@ -57,6 +57,17 @@ static STEPS: [Told; 5] = [
             refinements: 2,
         },
         line: "round 3 suite: states 12, asked 1024, known 4312, refinements 2\n",
+    },
+    Told {
+        step: Step {
+            round: 2,
+            phase: Phase::Walks,
+            states: 5,
+            asked: 40,
+            known: 1000,
+            refinements: 3,
+        },
+        line: "round 2 walks: states 5, asked 40, known 1000, refinements 3\n",
     },
     Told {
         step: Step {
@@ -176,7 +187,7 @@ fn each_step_is_a_line(rt: HostRuntime) {
     assert!(rt; log.state() == LogState::Open);
     let file = log.into_file();
     assert!(rt; file.name() == Some("steps"));
-    assert!(rt; has_steps(&file, 5));
+    assert!(rt; has_steps(&file, 6));
 }
 
 /// Whether a cut is told by its lines.

@@ -2,7 +2,8 @@
 ghost use Rattle.std.specs.Prelude.{◌≤◌};
 
 use crate::tests::{names, texts};
-use lw_wordlist::{WordStop, draw_words, read_lines, read_words};
+use lw_draw::draw_words;
+use lw_wordlist::{WordStop, read_lines, read_words};
 use lw_words::{Names, Words};
 use std::alloc::Global;
 use std::process::Abort;
@@ -13,7 +14,7 @@ fn letters(rt: &impl Abort, alloc: Global) -> Names {
 }
 
 /// Whether words have these letters, with a 9 behind each word.
-fn are_spelled(rt: &impl Abort, alloc: Global, words: &Words, letters: &[u16]) -> bool {
+pub(super) fn are_spelled(rt: &impl Abort, alloc: Global, words: &Words, letters: &[u16]) -> bool {
     let mut spelled = Vec::new(alloc);
     for word in words.as_slice() {
         spelled

@@ -10,7 +10,7 @@ use crate::tests::workers::crews::{Refusing, pool_of};
 use lw_cache::AskStop;
 use lw_chunks::Method;
 use lw_pool::Pool;
-use lw_rounds::{Kind, LearnStop, Learned, Phase, Settings, Step, Watcher};
+use lw_rounds::{Kind, LearnStop, Learned, Phase, Settings, Step, Testing, Watcher};
 use lw_words::{Kept, Word, Words};
 use lw_workers::{LearnedWith, learn_with};
 use std::alloc::Global;
@@ -161,9 +161,13 @@ fn learn_by<R: Abort + Threads + Wait + Sync + Copy + Drop>(
     ensures may { OnOk result.learned (MayAsk result.pool.stop) }
     ensures nothing { OnOk result.learned (NothingClashes (answers_of result.pool.kept)) }
 {
-    let settings = Settings::new(1, case.kind, case.extra, case.most, Method::W).expect(
-        &rt, "settings",
-    );
+    let settings = Settings::new(
+        1,
+        case.kind,
+        case.extra,
+        case.most,
+        Testing::by(Method::W),
+    ).expect(&rt, "settings");
     learn_with(pool, alloc, words, settings, notes)
 }
 

@@ -12,8 +12,8 @@ pub const USAGE: &str =
        check MODEL ANSWERS [--extra K] [--suite w|wp]
        serve MODEL
        trial --states N --inputs A --seed S [--workers N] [--learner table|ttt]
-added: learn .. [--kept FILE] [--words FILE] [--random R --length L --seed S] [--log FILE] [--suite w|wp|h]
-       accept .. [--kept FILE] [--words FILE] [--random R --length L --seed S] [--log FILE]
+added: learn .. [--kept FILE] [--words FILE] [[--random R] [--walks N] --length L --seed S] [--log FILE] [--suite w|wp|h]
+       accept .. [--kept FILE] [--words FILE] [[--random R] [--walks N] --length L --seed S] [--log FILE]
        check (MODEL | --acceptor FILE) ANSWERS [--extra K] [--suite w|wp|h]
        ask (SETUP | --table FILE | --accept SETUP | --acceptor FILE) WORD...
        recheck SETUP ANSWERS
@@ -23,7 +23,7 @@ added: learn .. [--kept FILE] [--words FILE] [--random R --length L --seed S] [-
 ";
 
 /// Arguments that are not taken, and why.
-static REFUSED: [(&[&str], &str); 66] = [
+static REFUSED: [(&[&str], &str); 75] = [
     (&[], "no command, or an argument that is no text\n"),
     (&["learns"], "unknown command learns\n"),
     (&["--help"], "try help\n"),
@@ -103,7 +103,47 @@ static REFUSED: [(&[&str], &str); 66] = [
     ),
     (
         &["learn", "--table", "m", "--length", "3", "--seed", "1"],
-        "--length needs --random\n",
+        "--length needs --random or --walks\n",
+    ),
+    (
+        &["learn", "--table", "m", "--length", "3"],
+        "--length needs --random or --walks and --seed\n",
+    ),
+    (
+        &["accept", "--table", "m", "--seed", "1"],
+        "--seed needs --random or --walks and --length\n",
+    ),
+    (
+        &["learn", "--table", "m", "--random", "3", "--seed", "1"],
+        "--random needs --length\n",
+    ),
+    (
+        &["learn", "--table", "m", "--walks", "3"],
+        "--walks needs --length and --seed\n",
+    ),
+    (
+        &["learn", "--table", "m", "--walks", "3", "--seed", "1"],
+        "--walks needs --length\n",
+    ),
+    (
+        &[
+            "learn", "--table", "m", "--random", "3", "--walks", "3", "--length", "3",
+        ],
+        "--walks needs --seed\n",
+    ),
+    (
+        &["accept", "--table", "m", "--walks", "3"],
+        "--walks needs --length and --seed\n",
+    ),
+    (
+        &[
+            "learn", "--table", "m", "--walks", "1000001", "--length", "3", "--seed", "1",
+        ],
+        "--walks is out of range: 0 to 1000000\n",
+    ),
+    (
+        &["check", "m", "k", "--walks", "3"],
+        "unknown option --walks\n",
     ),
     (
         &[
@@ -252,7 +292,7 @@ fn arguments_of_check(rt: HostRuntime) {
 }
 
 /// Arguments of `learn` with each number at the least and the greatest of its range.
-static ENDS: [&[&str]; 2] = [
+static ENDS: [&[&str]; 3] = [
     &[
         "learn",
         "s",
@@ -263,6 +303,7 @@ static ENDS: [&[&str]; 2] = [
         "--length=0",
         "--seed=0",
     ],
+    &["learn", "s", "--walks=0", "--length=0", "--seed=0"],
     &[
         "learn",
         "s",
@@ -270,6 +311,7 @@ static ENDS: [&[&str]; 2] = [
         "--extra=4",
         "--max-states=1024",
         "--random=1000000",
+        "--walks=1000000",
         "--length=65536",
         "--seed=18446744073709551615",
     ],

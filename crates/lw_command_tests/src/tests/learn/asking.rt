@@ -7,10 +7,11 @@ use crate::tests::learn::{
 };
 use crate::tests::memory::string;
 use lw_chunks::Method;
-use lw_learn::{Drawn, LearnArguments, LearnFiles};
+use lw_draw::Drawn;
+use lw_learn::{LearnArguments, LearnFiles};
 use lw_log::MemoryLog;
 use lw_outside::MemoryFiles;
-use lw_rounds::{Kind, Settings};
+use lw_rounds::{Kind, Settings, Testing};
 use lw_system::{Goal, Source};
 use std::alloc::Global;
 use std::process::Abort;
@@ -61,7 +62,7 @@ fn arguments(rt: &impl Abort, alloc: Global, row: &Row) -> LearnArguments
         kind: Kind::Table,
         extra: row.extra,
         max_states: 8,
-        suite: Method::W,
+        testing: Testing::by(Method::W),
     };
     let files = LearnFiles {
         model: None,
@@ -264,7 +265,7 @@ fn by_setup(rt: &impl Abort, alloc: Global) -> LearnArguments {
         kind: Kind::Table,
         extra: 0,
         max_states: 8,
-        suite: Method::W,
+        testing: Testing::by(Method::W),
     };
     let files = LearnFiles {
         model: None,

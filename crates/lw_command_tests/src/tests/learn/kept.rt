@@ -10,7 +10,7 @@ use lw_json::read_machine;
 use lw_learn::{LearnArguments, LearnFiles};
 use lw_log::MemoryLog;
 use lw_outside::{MemoryFiles, MemorySpawner};
-use lw_rounds::{Kind, Settings};
+use lw_rounds::{Kind, Settings, Testing};
 use lw_system::{Goal, Source};
 use std::alloc::Global;
 use std::process::Abort;
@@ -85,7 +85,7 @@ fn arguments(rt: &impl Abort, alloc: Global, row: &Row) -> LearnArguments
         kind: Kind::Table,
         extra: row.extra,
         max_states: row.max_states,
-        suite: Method::W,
+        testing: Testing::by(Method::W),
     };
     let files = LearnFiles {
         model: named(rt, alloc, "h", row.to_files),

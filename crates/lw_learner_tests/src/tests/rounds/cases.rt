@@ -8,7 +8,7 @@ ghost use Rattle.lw_cache.specs.Settling.{MayAsk};
 use lw_cache::Oracle;
 use lw_chunks::Method;
 use lw_mealy::Mealy;
-use lw_rounds::{Kind, LearnStop, Learned, Learner, Settings, Step, Watcher, learn};
+use lw_rounds::{Kind, LearnStop, Learned, Learner, Settings, Step, Testing, Watcher, learn};
 use lw_words::{Word, Words};
 use std::alloc::Global;
 use std::process::Abort;
@@ -183,9 +183,13 @@ fn call(
 
 /// What comes of a case.
 fn play(rt: &impl Abort, alloc: Global, case: &Case) -> Came {
-    let settings = Settings::new(1, case.kind, case.extra, case.most, Method::W).expect(
-        rt, "settings",
-    );
+    let settings = Settings::new(
+        1,
+        case.kind,
+        case.extra,
+        case.most,
+        Testing::by(Method::W),
+    ).expect(rt, "settings");
     let machine = machine_of(rt, alloc, case.outputs, case.rows);
     let mut oracle = oracle_of(rt, alloc, machine, case.known);
     let mut notes = Notes::new(alloc);

@@ -13,7 +13,7 @@ use lw_json::{Command, Machine, read_machine};
 use lw_mealy::Mealy;
 use lw_names::OutNames;
 use lw_outside::{MemorySpawner, Spawner};
-use lw_rounds::{Kind, LearnStop, Settings, Unwatched};
+use lw_rounds::{Kind, LearnStop, Settings, Testing, Unwatched};
 use lw_words::{Line, Names, SulStop, Word, Words};
 use lw_workers::{CutRun, LearningOutcome, Start};
 use std::alloc::Global;
@@ -82,7 +82,9 @@ fn learn<P: Spawner, R: Abort + Threads + Wait + Sync + Copy + Drop>(
     let inputs = command.inputs.len();
     assert!(rt; inputs <= 64);
     assert!(rt; words.len() <= 9 && are_words(words.as_slice(), inputs));
-    let settings = Settings::new(workers, kind, 1, 4, Method::W).expect(&rt, "settings");
+    let settings = Settings::new(workers, kind, 1, 4, Testing::by(Method::W)).expect(
+        &rt, "settings",
+    );
     let start = Start {
         names: first_names(&rt, alloc, &command.outputs),
         cache: Cache::new(alloc),

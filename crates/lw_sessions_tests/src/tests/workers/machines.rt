@@ -10,7 +10,7 @@ use lw_cache::Cache;
 use lw_chunks::Method;
 use lw_mealy::Mealy;
 use lw_names::OutNames;
-use lw_rounds::{Kind, LearnStop, Settings, Unwatched};
+use lw_rounds::{Kind, LearnStop, Settings, Testing, Unwatched};
 use lw_words::{Names, Words};
 use lw_workers::{LearningOutcome, Start, learn_machine};
 use std::alloc::Global;
@@ -53,9 +53,14 @@ fn learned_by<R: Abort + Threads + Wait + Sync + Copy + Drop>(
 ) -> LearningOutcome
     requires named { length names.now ≡ system.now.outputs }
 {
-    let settings = Settings::new(workers, Kind::Table, extra, max_states, Method::W).expect(
-        &rt, "settings",
-    );
+    let settings = Settings::new(
+        workers,
+        Kind::Table,
+        extra,
+        max_states,
+        Testing::by(Method::W),
+    )
+    .expect(&rt, "settings");
     let start = Start {
         names: OutNames::declared(alloc, names).expect(&rt, "memory"),
         cache: Cache::new(alloc),

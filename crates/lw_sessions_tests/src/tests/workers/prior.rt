@@ -12,7 +12,7 @@ use lw_cache::{AskStop, Cache, Clash};
 use lw_chunks::Method;
 use lw_mealy::Mealy;
 use lw_names::OutNames;
-use lw_rounds::{Kind, LearnStop, Settings};
+use lw_rounds::{Kind, LearnStop, Settings, Testing};
 use lw_words::{Kept, Words};
 use lw_workers::{LearningOutcome, Start};
 use std::alloc::Global;
@@ -54,7 +54,9 @@ fn learned_after<R: Abort + Threads + Wait + Sync + Copy + Drop>(
     let names = names_of(&rt, alloc, &["0", "1"]);
     let shared = OutNames::declared(alloc, &names).expect(&rt, "memory");
     let cache = with_prior(&rt, alloc, &system, &shared, letters, outs);
-    let settings = Settings::new(1, Kind::Table, 2, 4, Method::W).expect(&rt, "settings");
+    let settings = Settings::new(1, Kind::Table, 2, 4, Testing::by(Method::W)).expect(
+        &rt, "settings",
+    );
     let start = Start {
         names: shared,
         cache,
