@@ -5,18 +5,22 @@ Both learners ask a system in batches of words, and take the same rounds. Words 
 import itertools
 import sys
 
-from machines import canonical, outputs_of, state_after, suite
+from machines import canonical, outputs_of, state_after, suite, walks
 
 CHUNK = 512
 sys.setrecursionlimit(10_000)
 
 
 class System:
-    """A machine that is asked in batches, and the words that were asked of it: one that begins another is never asked."""
+    """A machine that is asked in batches, and the words that were asked of it: one that begins another is never asked.
+
+    It also has the lines of a learning's log, what was asked up to the last of them, and how many differences walks found.
+    """
 
     def __init__(self, rows):
         self.rows, self.known = rows, {}
         self.asked, self.asked_by_suite = [], []
+        self.log, self.noted, self.found_by_walks = [], 0, 0
 
     def is_known(self, word):
         node = self.known
@@ -268,16 +272,38 @@ def chunks(words):
         yield chunk
 
 
-def differing_in_suite(system, rows, letters, extra, method):
-    """The first word of a method's suite on which a machine differs from the system, cut to where it does."""
-    for chunk in chunks(suite(canonical(rows), letters, extra, method)):
-        system.settle_suite(chunk)
+def note(learner, phase, turn):
+    """Puts a line to the log about a step that is done."""
+    system = learner.system
+    known = len(system.asked)
+    numbers = f"asked {known - system.noted}, known {known}, refinements {learner.refinements}"
+    system.log.append(f"round {turn} {phase}: states {len(learner.access)}, {numbers}")
+    system.noted = known
+
+
+def differing_in(learner, machine, words, phase, turn):
+    """The first of some words, asked in chunks in a round, on which a machine differs from the system, cut to where it does."""
+    system = learner.system
+    settle = {"suite": system.settle_suite, "walks": system.settle}[phase]
+    for chunk in chunks(words):
+        settle(chunk)
+        note(learner, phase, turn)
         for word in chunk:
-            own, other = outputs_of(system.rows, 0, word), outputs_of(rows, 0, word)
+            own, other = outputs_of(system.rows, 0, word), outputs_of(machine, 0, word)
             if own != other:
                 place = next(i for i, (a, b) in enumerate(zip(own, other)) if a != b)
                 return word[: place + 1]
     return None
+
+
+def differing(learner, machine, extra, method, drawn, turn):
+    """A word of a method's suite on which a machine differs from the system, or else of the walks, where some are drawn."""
+    model, letters = canonical(machine), learner.letters
+    word = differing_in(learner, machine, suite(model, letters, extra, method), "suite", turn)
+    if word is None and drawn:
+        word = differing_in(learner, machine, walks(model, letters, *drawn), "walks", turn)
+        learner.system.found_by_walks += word is not None
+    return word
 
 
 def cut(system, rows, access, word):
@@ -294,17 +320,24 @@ def cut(system, rows, access, word):
     return state_after(rows, word[:low]), word[low], word[low + 1 :]
 
 
-def learn(learner, extra, method):
-    """The machine of a learner, after the rounds of a learning with a method's suite."""
+def learn(learner, extra, method, drawn=None):
+    """The machine of a learner, after the rounds of a learning with a method's suite, and maybe with walks behind it.
+
+    Of walks it takes how many there are, how many letters are drawn for each, and a seed.
+    """
     system = learner.system
+    system.noted = len(system.asked)
     learner.close()
-    while True:
+    note(learner, "table", 0)
+    for turn in itertools.count(1):
         machine = learner.machine()
         word = system.differing(machine)
         if word is None and learner.settle_block():
+            note(learner, "settling", turn)
             continue
         if word is None:
-            word = differing_in_suite(system, machine, learner.letters, extra, method)
+            word = differing(learner, machine, extra, method, drawn, turn)
         if word is None:
             return machine
         learner.refine(*cut(system, machine, learner.access, word))
+        note(learner, "analysis", turn)

@@ -1,10 +1,15 @@
-"""Machines, done plainly: their outputs, their canonical form, and the suites of three methods.
+"""Machines, done plainly: their outputs, their canonical form, the suites of three methods, and walks.
 
 A word is a tuple of letters, and a machine a list of rows: for each state a pair for each letter, the next state and the
 output.
 """
 import functools
 import itertools
+import os
+import sys
+
+sys.path.append(os.path.join(os.path.dirname(os.path.dirname(os.path.abspath(__file__))), "bench"))
+from drawn import words as drawn_numbers
 
 GREATEST_SUITE = 8_388_608
 
@@ -187,3 +192,18 @@ def suite(rows, letters, extra, method):
     if not is_within(len(rows), letters, extra):
         raise TooLarge
     yield from SUITES[method](rows, letters, extra)
+
+
+def word_by(words, number):
+    """The word that a number says among some; of none the empty word."""
+    return words[number % len(words)] if words else ()
+
+
+def walks(rows, letters, count, length, seed):
+    """Words drawn by a seed: each goes to a state of a minimal machine, to each in turn, on by drawn letters, and ends with a
+    separating word. The numbers begin behind those of machines with fewer states."""
+    access, ends = access_words(rows), separating_words(rows)
+    numbers = drawn_numbers(seed, len(rows) * count * (length + 1))
+    for k in range(count):
+        middle = tuple(next(numbers) % letters for _ in range(length))
+        yield word_by(access, k) + middle + word_by(ends, next(numbers))
