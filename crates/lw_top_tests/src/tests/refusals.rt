@@ -23,7 +23,7 @@ added: learn .. [--kept FILE] [--words FILE] [[--random R] [--walks N] --length 
 ";
 
 /// Arguments that are not taken, and why.
-static REFUSED: [(&[&str], &str); 75] = [
+static REFUSED: [(&[&str], &str); 61] = [
     (&[], "no command, or an argument that is no text\n"),
     (&["learns"], "unknown command learns\n"),
     (&["--help"], "try help\n"),
@@ -96,72 +96,6 @@ static REFUSED: [(&[&str], &str); 75] = [
     (
         &["learn", "--table", "m", "--suite"],
         "--suite needs a value\n",
-    ),
-    (
-        &["learn", "--table", "m", "--random", "3"],
-        "--random needs --length and --seed\n",
-    ),
-    (
-        &["learn", "--table", "m", "--length", "3", "--seed", "1"],
-        "--length needs --random or --walks\n",
-    ),
-    (
-        &["learn", "--table", "m", "--length", "3"],
-        "--length needs --random or --walks and --seed\n",
-    ),
-    (
-        &["accept", "--table", "m", "--seed", "1"],
-        "--seed needs --random or --walks and --length\n",
-    ),
-    (
-        &["learn", "--table", "m", "--random", "3", "--seed", "1"],
-        "--random needs --length\n",
-    ),
-    (
-        &["learn", "--table", "m", "--walks", "3"],
-        "--walks needs --length and --seed\n",
-    ),
-    (
-        &["learn", "--table", "m", "--walks", "3", "--seed", "1"],
-        "--walks needs --length\n",
-    ),
-    (
-        &[
-            "learn", "--table", "m", "--random", "3", "--walks", "3", "--length", "3",
-        ],
-        "--walks needs --seed\n",
-    ),
-    (
-        &["accept", "--table", "m", "--walks", "3"],
-        "--walks needs --length and --seed\n",
-    ),
-    (
-        &[
-            "learn", "--table", "m", "--walks", "1000001", "--length", "3", "--seed", "1",
-        ],
-        "--walks is out of range: 0 to 1000000\n",
-    ),
-    (
-        &["check", "m", "k", "--walks", "3"],
-        "unknown option --walks\n",
-    ),
-    (
-        &[
-            "learn", "--table", "m", "--random", "1000001", "--length", "3", "--seed", "1",
-        ],
-        "--random is out of range: 0 to 1000000\n",
-    ),
-    (
-        &[
-            "learn", "--table", "m", "--random", "3", "--length", "65537", "--seed", "1",
-        ],
-        "--length is out of range: 0 to 65536\n",
-    ),
-    (
-        &[
-            "learn", "--table", "m", "--random", "3", "--length", "3", "--seed", "-1",
-        ],
-        "--seed needs a value\n",
     ),
     (
         &["learn", "--table", "m", "--words"],
@@ -239,6 +173,76 @@ static REFUSED: [(&[&str], &str); 75] = [
     ),
 ];
 
+/// The same of words and walks that are to be drawn.
+static UNDRAWN: [(&[&str], &str); 14] = [
+    (
+        &["learn", "--table", "m", "--random", "3"],
+        "--random needs --length and --seed\n",
+    ),
+    (
+        &["learn", "--table", "m", "--length", "3", "--seed", "1"],
+        "--length needs --random or --walks\n",
+    ),
+    (
+        &["learn", "--table", "m", "--length", "3"],
+        "--length needs --random or --walks and --seed\n",
+    ),
+    (
+        &["accept", "--table", "m", "--seed", "1"],
+        "--seed needs --random or --walks and --length\n",
+    ),
+    (
+        &["learn", "--table", "m", "--random", "3", "--seed", "1"],
+        "--random needs --length\n",
+    ),
+    (
+        &["learn", "--table", "m", "--walks", "3"],
+        "--walks needs --length and --seed\n",
+    ),
+    (
+        &["learn", "--table", "m", "--walks", "3", "--seed", "1"],
+        "--walks needs --length\n",
+    ),
+    (
+        &[
+            "learn", "--table", "m", "--random", "3", "--walks", "3", "--length", "3",
+        ],
+        "--walks needs --seed\n",
+    ),
+    (
+        &["accept", "--table", "m", "--walks", "3"],
+        "--walks needs --length and --seed\n",
+    ),
+    (
+        &[
+            "learn", "--table", "m", "--walks", "1000001", "--length", "3", "--seed", "1",
+        ],
+        "--walks is out of range: 0 to 1000000\n",
+    ),
+    (
+        &["check", "m", "k", "--walks", "3"],
+        "unknown option --walks\n",
+    ),
+    (
+        &[
+            "learn", "--table", "m", "--random", "1000001", "--length", "3", "--seed", "1",
+        ],
+        "--random is out of range: 0 to 1000000\n",
+    ),
+    (
+        &[
+            "learn", "--table", "m", "--random", "3", "--length", "65537", "--seed", "1",
+        ],
+        "--length is out of range: 0 to 65536\n",
+    ),
+    (
+        &[
+            "learn", "--table", "m", "--random", "3", "--length", "3", "--seed", "-1",
+        ],
+        "--seed needs a value\n",
+    ),
+];
+
 /// Whether bytes are two texts, one behind the other.
 fn are_both(bytes: &[u8], first: &str, second: &str) -> bool {
     match bytes.strip_prefix(first.as_bytes()) {
@@ -273,6 +277,13 @@ fn is_refused<R: Abort + Threads + Wait + Sync + Copy + Drop>(
 #[test]
 fn arguments_that_are_not_taken(rt: HostRuntime) {
     for (arguments, reason) in &REFUSED {
+        assert!(rt; is_refused(&rt, rt.alloc(), arguments, reason), "{reason}");
+    }
+}
+
+#[test]
+fn draws_that_are_not_taken(rt: HostRuntime) {
+    for (arguments, reason) in &UNDRAWN {
         assert!(rt; is_refused(&rt, rt.alloc(), arguments, reason), "{reason}");
     }
 }
