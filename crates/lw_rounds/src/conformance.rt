@@ -76,7 +76,7 @@ fn settle_chunks<O: Oracle, S: Chunks, W: Watcher>(
 {
     while suite.next_chunk(chunk)? {
         let found = settle_words(oracle, hypothesis, chunk.as_slice())?;
-        account.tell(phase, oracle);
+        account.tell_tests(phase, chunk.len(), oracle);
         if let Some(word) = found {
             return Ok(Some(word));
         }

@@ -22,7 +22,7 @@ use crate::watcher::Account;
 use crate::{LearnStop, Learner, Phase, Settings, Watcher};
 use lw_cache::{AskStop, Cache, Oracle};
 use lw_certify::{Verdict, certify};
-use lw_chunks::{Chunks, Method, SuiteFault};
+use lw_chunks::{Chunks, Method, SuiteFault, suite_size};
 use lw_draw::{Drawn, Walks};
 use lw_mealy::Mealy;
 use lw_separate::canonical;
@@ -94,6 +94,7 @@ fn settle_walks<O: Oracle, W: Watcher>(
     let Some(drawn) = walks else {
         return Ok(None);
     };
+    account.begin_tests(u64::from(drawn.count));
     let mut walks = Walks::new(alloc, model, drawn)?;
     settle_suite(oracle, alloc, hypothesis, &mut walks, Phase::Walks, account)
 }
@@ -175,6 +176,8 @@ fn settle_and_certify<O: Oracle, S: Chunks, W: Watcher>(
     ensures leaves { Leaves (O.state oracle.old) (O.state oracle.new) (learn_stop result) }
     ensures can { O.can_settle oracle.new }
 {
+    let size = suite_size(model.states(), model.inputs(), settings.extra);
+    account.begin_tests(size);
     let found = settle_suite(oracle, alloc, hypothesis, suite, Phase::Suite, account)?;
     match found {
         Some(word) => Ok(Tested::Differs(word)),

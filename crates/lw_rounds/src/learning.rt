@@ -31,8 +31,8 @@ fn learn_from<O: Oracle, W: Watcher>(
     requires inputs { inputs_of learner.old ≡ (O.state oracle.old).inputs }
     requires outputs { outputs_of learner.old ≡ (O.state oracle.old).outputs }
     requires read { IsRead (answers_of (O.state oracle.old).kept) learner.old }
-    ensures learned { IfOk result (λ model. IsLearnedFrom learner.old settings.testing settings.extra
-        (answers_of (O.state oracle.new).kept) model learner.new) }
+    ensures learned { IfOk result (λ model. IsLearnedFrom learner.old settings.testing
+        settings.extra (answers_of (O.state oracle.new).kept) model learner.new) }
     ensures plainly { IfOk result (λ model. LearnsFromNew learner.old learner.new settings.testing
         settings.extra model.rows (O.state oracle.old) (O.state oracle.new)) }
     ensures stops { IfErr result (StopsFrom learner.old settings.extra

@@ -21,4 +21,4 @@ pub use learner::{Kind, Learner};
 pub use learning::learn;
 pub use settings::{Settings, Testing};
 pub use stops::LearnStop;
-pub use watcher::{Phase, Step, Unwatched, Watcher};
+pub use watcher::{Phase, Progress, Step, Tests, Unwatched, Watcher, tell_step};

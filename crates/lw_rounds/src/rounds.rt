@@ -153,6 +153,7 @@ fn round<O: Oracle, W: Watcher>(
     ensures can { O.can_settle oracle.new }
 {
     let hypothesis = learner.machine()?;
+    account.begin_round(&hypothesis);
     round_with(oracle, alloc, learner, &hypothesis, settings, account)
 }
 
@@ -168,8 +169,8 @@ pub fn rounds<O: Oracle, W: Watcher>(
 ) -> Result<Mealy, LearnStop>
     requires can { O.can_settle oracle.old }
     requires ready { IsReady (O.state oracle.old) learner.old }
-    ensures learned { IfOk result (λ model. IsLearnedFrom learner.old settings.testing settings.extra
-        (answers_of (O.state oracle.new).kept) model learner.new) }
+    ensures learned { IfOk result (λ model. IsLearnedFrom learner.old settings.testing
+        settings.extra (answers_of (O.state oracle.new).kept) model learner.new) }
     ensures plainly { IfOk result (λ model. EndsAsPlain learner.old learner.new settings.testing
         settings.extra model.rows (O.state oracle.old) (O.state oracle.new)) }
     ensures stops { IfErr result (StopsFrom learner.old settings.extra
@@ -178,7 +179,6 @@ pub fn rounds<O: Oracle, W: Watcher>(
     ensures can { O.can_settle oracle.new }
 {
     loop {
-        account.begin_round();
         if let Some(model) = round(oracle, alloc, learner, settings, account)? {
             return Ok(model);
         }

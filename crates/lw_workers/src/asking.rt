@@ -11,21 +11,23 @@ ghost use Rattle.lw_workers.specs.Asking.{AnswersWords};
 ghost use Rattle.lw_workers.specs.bodies.Plain.{AsksGiven, LearnsGiven};
 
 use lw_cache::{AskStop, Oracle};
-use lw_rounds::{LearnStop, Learned, Phase, Settings, Step, Watcher, learn};
+use lw_rounds::{LearnStop, Learned, Phase, Settings, Step, Watcher, learn, tell_step};
 use lw_words::Word;
 use std::alloc::Global;
 
 /// Tells of words that were settled, before which the oracle kept this many answers.
 fn tell_words<O: Oracle, W: Watcher>(watcher: &mut W, before: usize, oracle: &O) {
-    let known = oracle.cache().kept().len();
-    watcher.step(Step {
+    let kept = oracle.cache().kept();
+    let known = kept.len();
+    let step = Step {
         round: 0,
         phase: Phase::Words,
         states: 0,
         asked: known.saturating_sub(before),
         known,
         refinements: 0,
-    });
+    };
+    tell_step(watcher, step, kept, None);
 }
 
 #[tactic(auto, using(lw_cache::proofs::SettlingLemmas::leaves_nothing, lw_cache::proofs::SettlingLemmas::leaves_settled))]
