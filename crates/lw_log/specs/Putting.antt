@@ -6,6 +6,11 @@ use Rattle.lw_log.specs.Lines.{cut_line, received_line, rest_line}
 use Rattle.lw_log.specs.declared.log.LogState.{LogState}
 use Rattle.lw_log.specs.declared.log.LogState.TheVariants.{Closed, Open, Failed}
 
+-- what contracts see of a log: its file, and whether lines are put
+pub record LogValue (L : Type 0) : Type 0 where
+  pub file : L
+  pub state : LogState
+
 -- nothing was made and nothing put, since the file failed, which it counted
 abbrev pub PutsNothing : LogFileState → LogFileState → Type 0
 PutsNothing before now = (now.name ≡ before.name) × (now.text ≡ before.text) × CountedFault before.faults now.faults

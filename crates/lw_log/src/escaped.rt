@@ -28,7 +28,7 @@ fn put_byte(alloc: Global, text: &mut String, byte: u8) -> Result<(), NoMemory>
 }
 
 /// Appends the bytes: printable ones as they are, a backslash twice, and all others by their number.
-pub(crate) fn put_escaped(alloc: Global, text: &mut String, bytes: &[u8]) -> Result<(), NoMemory>
+pub fn put_escaped(alloc: Global, text: &mut String, bytes: &[u8]) -> Result<(), NoMemory>
     ensures { OnOk result (string_bytes text.new ≡ string_bytes text.old ++
         flat_map escaped bytes.now) }
 {

@@ -5,7 +5,8 @@ mod escaped;
 mod lines;
 mod log;
 mod memory_log;
+mod progress;
 
-pub use escaped::bytes_are_told_readably;
+pub use escaped::{bytes_are_told_readably, put_escaped};
 pub use log::{Log, LogState};
 pub use memory_log::MemoryLog;

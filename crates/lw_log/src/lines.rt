@@ -8,7 +8,7 @@ use lw_rounds::{Phase, Step};
 use lw_words::{Names, NoMemory, put_word};
 use std::alloc::Global;
 
-fn phase_name(phase: Phase) -> &'static str
+pub(crate) fn phase_name(phase: Phase) -> &'static str
     ensures { result.now ≡ phase_name phase }
 {
     match phase {
@@ -21,7 +21,7 @@ fn phase_name(phase: Phase) -> &'static str
     }
 }
 
-fn counts_text(
+pub(crate) fn counts_text(
     alloc: Global,
     states: u16,
     asked: usize,

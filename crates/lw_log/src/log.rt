@@ -6,10 +6,12 @@ ghost use Rattle.lw_log.specs.declared.log.LogState.TheVariants.{Closed, Open};
 ghost use Rattle.lw_log.specs.declared.log.LogState.TheVariants as states;
 
 use crate::lines::{cut_line, received_line, rest_line, step_line};
-use lw_outside::{Failed, LogFile};
-use lw_rounds::{Step, Watcher};
+use crate::progress::{SoFar, note_of_step};
+use lw_outside::{Failed, LogFile, Sink, put_all};
+use lw_rounds::{Progress, Step, Watcher};
 use lw_words::{Names, NoMemory};
 use std::alloc::Global;
+use std::marker::Model;
 
 /// Whether lines are put.
 #[derive(Clone, Copy, Debug, PartialEq, Eq)]
@@ -21,24 +23,66 @@ pub enum LogState {
     Failed,
 }
 
-/// A log of a learning: closed until a file is named for it.
+/// A log of a learning: closed until a file is named for it. Beside its file it has a stream for notes, which gets the same lines,
+/// once they are wanted there, and those that only a person wants who waits. Contracts see the file and whether lines are put.
 #[derive(Drop)]
-pub struct Log<L: LogFile> {
+pub struct Log<L: LogFile, N: Sink> {
     alloc: Global,
     file: L,
     state: LogState,
+    notes: N,
+    is_verbose: bool,
+    so_far: SoFar,
 }
 
-impl<L: LogFile> Log<L> {
-    /// Takes no memory.
-    pub fn new(alloc: Global, file: L) -> Log<L>
-        ensures file { result.file ≡ file }
-        ensures state { result.state ≡ Closed }
+impl<L: LogFile, N: Sink> Model for Log<L, N> {
+    ghost use Rattle.lw_log.specs.Putting.{LogValue};
+
+    ghost Value = { LogValue L };
+
+    ghost view = { λ l. record { file = l.file; state = l.state } };
+}
+
+impl<L: LogFile, N: Sink> Log<L, N> {
+    /// Nothing is noted. Takes no memory.
+    pub fn new(alloc: Global, file: L, notes: N) -> Log<L, N>
+        ensures { result ≡ record { file = file; state = Closed } }
     {
         Log {
             alloc,
             file,
             state: LogState::Closed,
+            notes,
+            is_verbose: false,
+            so_far: SoFar::new(),
+        }
+    }
+
+    /// Notes from now on, until the stream of notes fails.
+    pub fn be_verbose(&mut self)
+        ensures { self.new ≡ self.old }
+    {
+        self.is_verbose = true;
+    }
+
+    pub fn is_verbose(&self) -> bool {
+        self.is_verbose
+    }
+
+    fn note_bytes(&mut self, lines: &[u8])
+        ensures { self.new ≡ self.old }
+    {
+        if self.is_verbose && put_all(&mut self.notes, lines).is_err() {
+            self.is_verbose = false;
+        }
+    }
+
+    /// Notes whole lines that the file doesn't get, where there was memory to make them.
+    pub fn note(&mut self, lines: Result<String, NoMemory>)
+        ensures { self.new ≡ self.old }
+    {
+        if let Ok(lines) = &lines {
+            self.note_bytes(lines.as_bytes());
         }
     }
 
@@ -63,8 +107,8 @@ impl<L: LogFile> Log<L> {
         self.state
     }
 
-    /// Puts whole lines at once, where there was memory to make them; where there wasn't, the log has failed.
-    pub fn line(&mut self, line: Result<String, NoMemory>)
+    /// Puts whole lines at once into the file alone, where there was memory to make them; where there wasn't, the log has failed.
+    pub fn file_line(&mut self, line: Result<String, NoMemory>)
         ensures kept { self.old.state ≢ Open → self.new ≡ self.old }
         ensures open { self.old.state ≡ Open → self.new.state ≢ Closed }
         ensures put { self.old.state ≡ Open → IfOk line (λ l. Puts (string_bytes l) self.new.state
@@ -82,6 +126,21 @@ impl<L: LogFile> Log<L> {
         if !is_put {
             self.state = LogState::Failed;
         }
+    }
+
+    /// The same, and notes them.
+    pub fn line(&mut self, line: Result<String, NoMemory>)
+        ensures kept { self.old.state ≢ Open → self.new ≡ self.old }
+        ensures open { self.old.state ≡ Open → self.new.state ≢ Closed }
+        ensures put { self.old.state ≡ Open → IfOk line (λ l. Puts (string_bytes l) self.new.state
+            (L.state self.old.file) (L.state self.new.file)) }
+        ensures unmade { self.old.state ≡ Open → OnErr line ((self.new.state ≡ states.Failed) ×
+            (self.new.file ≡ self.old.file)) }
+    {
+        if let Ok(line) = &line {
+            self.note_bytes(line.as_bytes());
+        }
+        self.file_line(line);
     }
 
     /// Tells of the last line that was received, where there is one.
@@ -123,7 +182,7 @@ impl<L: LogFile> Log<L> {
             (cut_lines instance letters.now asked.now (option_map (λ line. line.now) received.entry)
             rest.now) self.new.state (L.state self.old.file) (L.state self.new.file) }
     {
-        if self.state != LogState::Open {
+        if self.state != LogState::Open && !self.is_verbose {
             return;
         }
         self.line(cut_line(self.alloc, instance, letters, asked));
@@ -131,8 +190,8 @@ impl<L: LogFile> Log<L> {
         self.rest(rest);
     }
 
-    /// Puts whole lines, as they are and at once.
-    pub fn text(&mut self, text: &[u8])
+    /// Puts whole lines into the file alone, as they are and at once.
+    pub fn file_text(&mut self, text: &[u8])
         ensures kept { self.old.state ≢ Open → self.new ≡ self.old }
         ensures open { self.old.state ≡ Open → self.new.state ≢ Closed }
         ensures put { self.old.state ≡ Open → Puts text.now self.new.state (L.state self.old.file)
@@ -143,6 +202,24 @@ impl<L: LogFile> Log<L> {
         }
     }
 
+    /// The same, and notes them.
+    pub fn text(&mut self, text: &[u8])
+        ensures kept { self.old.state ≢ Open → self.new ≡ self.old }
+        ensures open { self.old.state ≡ Open → self.new.state ≢ Closed }
+        ensures put { self.old.state ≡ Open → Puts text.now self.new.state (L.state self.old.file)
+            (L.state self.new.file) }
+    {
+        self.note_bytes(text);
+        self.file_text(text);
+    }
+
+    /// Where notes go.
+    pub fn notes(&self) -> &N {
+        &self.notes
+    }
+}
+
+impl<L: LogFile, N: Sink + Drop> Log<L, N> {
     pub fn into_file(self) -> L
         ensures { result ≡ self.file }
     {
@@ -150,7 +227,7 @@ impl<L: LogFile> Log<L> {
     }
 }
 
-impl<L: LogFile> Watcher for Log<L> {
+impl<L: LogFile, N: Sink> Watcher for Log<L, N> {
     ghost use Rattle.std.specs.Prelude.{◌≡◌, ◌≢◌};
     ghost use Rattle.lw_log.specs.Lines.{step_line};
     ghost use Rattle.lw_log.specs.Putting.{PutsIfMade};
@@ -161,8 +238,22 @@ impl<L: LogFile> Watcher for Log<L> {
         ensures put { self.old.state ≡ Open → PutsIfMade (step_line step) self.new.state
             (L.state self.old.file) (L.state self.new.file) }
     {
-        if self.state == LogState::Open {
-            self.line(step_line(self.alloc, step));
+        if self.is_verbose {
+            self.so_far.step(step);
+            self.note(note_of_step(self.alloc, step, self.so_far));
         }
+        if self.state == LogState::Open {
+            self.file_line(step_line(self.alloc, step));
+        }
+    }
+
+    fn wants_progress(&self) -> bool {
+        self.is_verbose
+    }
+
+    fn progress(&mut self, progress: Progress)
+        ensures { self.new ≡ self.old }
+    {
+        self.so_far.progress(progress);
     }
 }

@@ -1,8 +1,9 @@
 //! Which lines are put, by hand, each by a call of its own, and that none is once a call failed.
 
-use crate::tests::names;
+use crate::tests::{names, sink_of};
 use lw_log::{Log, LogState, MemoryLog};
-use lw_rounds::{Phase, Step, Watcher};
+use lw_outside::MemorySink;
+use lw_rounds::{Phase, Progress, Step, Tests, Watcher};
 use lw_words::Names;
 use std::alloc::Global;
 use std::process::Abort;
@@ -133,10 +134,20 @@ fn letters(rt: &impl Abort, alloc: Global) -> Names {
 }
 
 /// A log over a file that fails at the call with this number, after the call that opens it, which has the number 0.
-fn opened(alloc: Global, failing: usize) -> Log<MemoryLog> {
-    let mut log = Log::new(alloc, MemoryLog::failing_at(alloc, failing));
+fn opened(rt: &impl Abort, alloc: Global, failing: usize) -> Log<MemoryLog, MemorySink> {
+    let mut log = closed(rt, alloc, MemoryLog::failing_at(alloc, failing), &[]);
     log.open("steps");
     log
+}
+
+/// A log that isn't opened, whose notes fail at the calls with these numbers.
+fn closed(
+    rt: &impl Abort,
+    alloc: Global,
+    file: MemoryLog,
+    failing: &[u64],
+) -> Log<MemoryLog, MemorySink> {
+    Log::new(alloc, file, sink_of(rt, alloc, 4096, 4096, failing))
 }
 
 /// Tells a watcher of all steps.
@@ -182,7 +193,7 @@ fn has_steps(file: &MemoryLog, count: usize) -> bool {
 
 #[test]
 fn each_step_is_a_line(rt: HostRuntime) {
-    let mut log = opened(rt.alloc(), usize::MAX);
+    let mut log = opened(&rt, rt.alloc(), usize::MAX);
     tell_all(&mut log);
     assert!(rt; log.state() == LogState::Open);
     let file = log.into_file();
@@ -191,8 +202,8 @@ fn each_step_is_a_line(rt: HostRuntime) {
 }
 
 /// Whether a cut is told by its lines.
-fn tells(alloc: Global, letters: &Names, cut: &Cut) -> bool {
-    let mut log = opened(alloc, usize::MAX);
+fn tells(rt: &impl Abort, alloc: Global, letters: &Names, cut: &Cut) -> bool {
+    let mut log = opened(rt, alloc, usize::MAX);
     let received = match cut.received {
         Some(line) => Some(line.as_bytes()),
         None => None,
@@ -205,13 +216,13 @@ fn tells(alloc: Global, letters: &Names, cut: &Cut) -> bool {
 fn each_cut_is_told(rt: HostRuntime) {
     let letters = letters(&rt, rt.alloc());
     for cut in &CUTS {
-        assert!(rt; tells(rt.alloc(), &letters, cut));
+        assert!(rt; tells(&rt, rt.alloc(), &letters, cut));
     }
 }
 
 /// Whether a log whose file fails at a call puts so many lines, and nothing more is put when it is told.
-fn puts_until(alloc: Global, failing: usize, lines: usize) -> bool {
-    let mut log = opened(alloc, failing);
+fn puts_until(rt: &impl Abort, alloc: Global, failing: usize, lines: usize) -> bool {
+    let mut log = opened(rt, alloc, failing);
     tell_all(&mut log);
     log.open("again");
     log.text(b"a text\n");
@@ -222,13 +233,13 @@ fn puts_until(alloc: Global, failing: usize, lines: usize) -> bool {
 fn nothing_is_put_after_a_failure(rt: HostRuntime) {
     // At the call that opens, and at the second line.
     for (failing, lines) in [(0, 0), (2, 1)] {
-        assert!(rt; puts_until(rt.alloc(), failing, lines));
+        assert!(rt; puts_until(&rt, rt.alloc(), failing, lines));
     }
 }
 
 #[test]
 fn a_closed_log_puts_nothing(rt: HostRuntime) {
-    let mut log = Log::new(rt.alloc(), MemoryLog::new(rt.alloc()));
+    let mut log = closed(&rt, rt.alloc(), MemoryLog::new(rt.alloc()), &[]);
     tell_all(&mut log);
     log.text(b"a text\n");
     assert!(rt; log.state() == LogState::Closed);
@@ -239,7 +250,67 @@ fn a_closed_log_puts_nothing(rt: HostRuntime) {
 
 #[test]
 fn a_text_is_put_as_it_is(rt: HostRuntime) {
-    let mut log = opened(rt.alloc(), usize::MAX);
+    let mut log = opened(&rt, rt.alloc(), usize::MAX);
     log.text(b"yes: states 1\n\\\n");
     assert!(rt; has_lines(&log.into_file(), &["yes: states 1\n\\\n"]));
+}
+
+/// Tells a watcher of a step and of its progress, where it wants that.
+fn tell_step<W: Watcher>(watcher: &mut W, step: Step, letters: u64, tests: Option<Tests>) {
+    if watcher.wants_progress() {
+        watcher.progress(Progress { letters, tests });
+    }
+    watcher.step(step);
+}
+
+/// Tells of the second step and of the fourth, with words of 21 and of 9,000 letters.
+fn tell_two<W: Watcher>(watcher: &mut W) {
+    tell_step(watcher, STEPS[1].step, 21, None);
+    let tests = Some(Tests {
+        settled: 1024,
+        most: 5000,
+    });
+    tell_step(watcher, STEPS[3].step, 9000, tests);
+}
+
+const NOTES: &str =
+    "round 0 table: states 1, asked 10, known 13, refinements 0, resets 10, letters 21\nround 3 suite: states 12, asked 1024, known 4312, refinements 2, resets 1034, letters 9021, tests 1024 of at most 5000\n";
+
+#[test]
+fn steps_are_noted_with_what_came_before(rt: HostRuntime) {
+    let mut log = closed(&rt, rt.alloc(), MemoryLog::new(rt.alloc()), &[]);
+    log.be_verbose();
+    tell_two(&mut log);
+    assert!(rt; log.notes().taken() == NOTES.as_bytes());
+    assert!(rt; log.state() == LogState::Closed);
+}
+
+#[test]
+fn nothing_is_noted_that_is_not_wanted(rt: HostRuntime) {
+    let mut log = opened(&rt, rt.alloc(), usize::MAX);
+    tell_two(&mut log);
+    log.text(b"a text\n");
+    assert!(rt; log.notes().taken().is_empty());
+    assert!(rt; log.into_file().lines().len() == 3);
+}
+
+#[test]
+fn the_outcome_is_for_the_file_alone(rt: HostRuntime) {
+    let mut log = opened(&rt, rt.alloc(), usize::MAX);
+    log.be_verbose();
+    log.text(b"a reason\n");
+    log.file_text(b"an outcome\n");
+    assert!(rt; log.notes().taken() == b"a reason\n".as_slice());
+    assert!(rt; has_lines(&log.into_file(), &["a reason\n", "an outcome\n"]));
+}
+
+#[test]
+fn nothing_is_noted_after_a_refusal(rt: HostRuntime) {
+    let mut log = closed(&rt, rt.alloc(), MemoryLog::new(rt.alloc()), &[1]);
+    log.be_verbose();
+    log.text(b"first\n");
+    log.text(b"second\n");
+    log.text(b"third\n");
+    assert!(rt; log.notes().taken() == b"first\n".as_slice());
+    assert!(rt; !log.is_verbose());
 }
