@@ -68,6 +68,7 @@ no_text aim model answers before now (BadFile role.Prior fault) own u = absurd u
 no_text aim model answers before now (BadFile role.Second fault) own u = absurd u
 no_text aim model answers before now (BadFile role.Words fault) own u = absurd u
 no_text aim model answers before now (BadFile role.Kept fault) own u = absurd u
+no_text aim model answers before now (BadFile role.Last fault) own u = absurd u
 no_text aim model answers before now (FileTooLong r) own u = absurd own
 no_text aim model answers before now (FileFault r) own u = absurd own
 no_text aim model answers before now NoMemory own u = absurd own
@@ -136,6 +137,7 @@ exact_unread aim model answers before now m a decision (BadFile role.Prior fault
 exact_unread aim model answers before now m a decision (BadFile role.Second fault) u tm ta = absurd u
 exact_unread aim model answers before now m a decision (BadFile role.Words fault) u tm ta = absurd u
 exact_unread aim model answers before now m a decision (BadFile role.Kept fault) u tm ta = absurd u
+exact_unread aim model answers before now m a decision (BadFile role.Last fault) u tm ta = absurd u
 exact_unread aim model answers before now m a decision (FileTooLong role.Model) u tm ta = absurd (not_long (IsModelFile aim) model m before.holds tm u.0)
 exact_unread aim model answers before now m a decision (FileTooLong role.Answers) u tm ta = absurd (not_long IsAnswersFile answers a before.holds ta u.0)
 exact_unread aim model answers before now m a decision (FileTooLong role.Setup) u tm ta = absurd u
@@ -144,6 +146,7 @@ exact_unread aim model answers before now m a decision (FileTooLong role.Prior) 
 exact_unread aim model answers before now m a decision (FileTooLong role.Second) u tm ta = absurd u
 exact_unread aim model answers before now m a decision (FileTooLong role.Words) u tm ta = absurd u
 exact_unread aim model answers before now m a decision (FileTooLong role.Kept) u tm ta = absurd u
+exact_unread aim model answers before now m a decision (FileTooLong role.Last) u tm ta = absurd u
 exact_unread aim model answers before now m a decision (FileFault r) u tm ta = inr (inr (inr (r, refl)))
 exact_unread aim model answers before now m a decision NoMemory u tm ta = inr (inl refl)
 exact_unread aim model answers before now m a decision (Learned h r) u tm ta = absurd u

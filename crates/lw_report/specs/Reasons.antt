@@ -14,7 +14,7 @@ use Rattle.lw_json.specs.declared.fault.Field.TheVariants as field
 use Rattle.lw_json.specs.declared.fault.JsonFault.{JsonFault}
 use Rattle.lw_json.specs.declared.fault.JsonFault.TheVariants.{NotJson, Shape, Inputs, Outputs, UnknownOutput, Mealy, BadWord, Lengths, NoMemory}
 use Rattle.lw_report.specs.declared.role.Role.{Role}
-use Rattle.lw_report.specs.declared.role.Role.TheVariants.{Setup, Table, Model, Answers, Prior, Second, Words, Kept}
+use Rattle.lw_report.specs.declared.role.Role.TheVariants.{Setup, Table, Model, Answers, Prior, Second, Words, Kept, Last}
 
 abbrev pub role_name : Role → List ℕ
 role_name Setup = codes "setup"
@@ -25,6 +25,7 @@ role_name Prior = codes "prior"
 role_name Second = codes "second model"
 role_name Words = codes "words"
 role_name Kept = codes "kept"
+role_name Last = codes "last"
 
 abbrev pub field_name : Field → List ℕ
 field_name field.Root = codes "root"

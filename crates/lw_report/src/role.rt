@@ -3,7 +3,8 @@ ghost use Rattle.std.specs.Prelude.{◌≡◌};
 ghost use Rattle.lw_report.specs.Reasons.{role_name};
 
 /// What a file is to a call: a setup, a machine that is learned, a model, answers, or those of an earlier call;
-/// the second of two models, words that are asked besides, or the answers that are kept at any end.
+/// the second of two models, words that are asked besides, the answers that are kept at any end, or the machine that is left at
+/// an end without a model.
 #[derive(Clone, Copy, Debug, PartialEq, Eq)]
 pub enum Role {
     Setup,
@@ -14,6 +15,7 @@ pub enum Role {
     Second,
     Words,
     Kept,
+    Last,
 }
 
 impl Role {
@@ -30,6 +32,7 @@ impl Role {
             Role::Second => "second model",
             Role::Words => "words",
             Role::Kept => "kept",
+            Role::Last => "last",
         }
     }
 }

@@ -26,8 +26,8 @@ const USAGE: &str =
        check MODEL ANSWERS [--extra K] [--suite w|wp]
        serve MODEL
        trial --states N --inputs A --seed S [--workers N] [--learner table|ttt]
-added: learn .. [--kept FILE] [--words FILE] [[--random R] [--walks N] --length L --seed S] [--log FILE] [--suite w|wp|h]
-       accept .. [--kept FILE] [--words FILE] [[--random R] [--walks N] --length L --seed S] [--log FILE]
+added: learn .. [--kept FILE] [--words FILE] [[--random R] [--walks N] --length L --seed S] [--log FILE] [--suite w|wp|h] [--last FILE] [--verbose]
+       accept .. [--kept FILE] [--words FILE] [[--random R] [--walks N] --length L --seed S] [--log FILE] [--last FILE] [--verbose]
        check (MODEL | --acceptor FILE) ANSWERS [--extra K] [--suite w|wp|h]
        ask (SETUP | --table FILE | --accept SETUP | --acceptor FILE) WORD...
        recheck SETUP ANSWERS
@@ -137,6 +137,7 @@ fn too_long_text(role: Role) -> &'static str
         Role::Second => "file too long: second model\n",
         Role::Words => "file too long: words\n",
         Role::Kept => "file too long: kept\n",
+        Role::Last => "file too long: last\n",
     }
 }
 
@@ -152,6 +153,7 @@ fn file_fault_text(role: Role) -> &'static str
         Role::Second => "file fault: second model\n",
         Role::Words => "file fault: words\n",
         Role::Kept => "file fault: kept\n",
+        Role::Last => "file fault: last\n",
     }
 }
 
