@@ -79,6 +79,7 @@ fn learn_free<P: Spawner, R: Threads + Wait + Sync + Drop, W: Watcher>(
     } = learn_over(rt, alloc, spawner, command, start, settings, watcher);
     let _few = names.len();
     sort_outputs(&mut names, &mut to, &mut learned, &mut kept);
+    watcher.renumber(&to);
     LearningOutcome {
         learned,
         kept,

@@ -43,7 +43,8 @@ use Rattle.lw_learn.specs.Asking.{IsWordlessTask}
 use Rattle.lw_learn.specs.Calls.{MadeWrites}
 use Rattle.lw_json.specs.declared.files.Machine.{Machine}
 use Rattle.lw_system.specs.NewLines.{count_of}
-use Rattle.lw_learn.specs.Ending.{Carries, EndsLearned, EndsPlainly, EndsRead, EndsUnread, IsEndOf, IsSoundSystem, IsToldOf, IsUncountedSystem, end_outputs}
+use Rattle.lw_learn.specs.Ending.{Carries, EndsLearned, EndsLeaving, EndsPlainly, EndsRead, EndsUnread, IsEndOf, IsSoundSystem, IsToldOf, IsUncountedSystem, end_outputs}
+use Rattle.lw_learn.specs.Last.{LeavesLast, model_learned}
 use Rattle.lw_learn.specs.Findings.{IsOfSystem, LearningStopsBy}
 use Rattle.lw_learn.specs.Outcomes.{HasFiles, HasModelFile, IsBadLine, IsBehindOut, IsLearnedOutcome, IsNoAcceptor, IsReachedAcceptor, IsReachedMachine, IsReachedOutcome, IsUntold, ModelIsTold, ReportIsTold, told_of}
 use Rattle.lw_learn.specs.Saving.{HasSaved, IsKeptWritten, IsSaved, IsTextWritten, KeptStand, MayTell, saved_outcome}
@@ -271,6 +272,7 @@ kept_or role.Prior = inl (λ e. let wrong : role.Prior ≡ Kept = e in cc)
 kept_or role.Second = inl (λ e. let wrong : role.Second ≡ Kept = e in cc)
 kept_or role.Words = inl (λ e. let wrong : role.Words ≡ Kept = e in cc)
 kept_or role.Kept = inr refl
+kept_or role.Last = inl (λ e. let wrong : role.Last ≡ Kept = e in cc)
 
 -- what was saved and then told is how the call ends
 pub end_of : (a : LearnValues) (s : System) (naming : Naming) (learned : Result Found LearnStop) (kept : List KeptAnswer) (was : Saved) (f m g : FilesState) (o p e d : SinkState) (end : End) → HasSaved a.kept (letters_of s) naming.names kept f m was → IsToldOf a s naming learned kept was m g o p e d end → IsEndOf a s naming learned kept f g o p e d end
@@ -466,6 +468,21 @@ pub answered_end : (goal : Goal) (words : List (List ℕ)) (learned : Result Fou
 answered_end goal words (Ok l) kept end carries same asked some = subst (λ (ks : List KeptAnswer). AnswersWords words ks) (sym same) asked
 answered_end goal words (Err stop) kept end carries same asked some = absurd (some carries.0)
 
+-- an end has the model that was learned
+carried_model : (goal : Goal) (learned : Result Found LearnStop) (end : End) → Carries goal learned end → end.model ≡ model_learned learned
+carried_model goal (Ok l) end carries = carries.0
+carried_model goal (Err stop) end carries = carries.0
+
+-- and the machine that is left was written before
+pub ends_leaving : (a : LearnValues) (s : System) (prior : List KeptAnswer) (naming : Naming) (learned : Result Found LearnStop) (kept : List KeptAnswer) (f l g : FilesState) (b z : SpawnerState) (o p e d : SinkState) (end : End) → IsOfSystem a s prior b z learned kept naming.names → IfOk learned (GivesModel a.learner a.testing (length (letters_of s)) (length naming.names) a.extra a.max_states kept)
+    → IfErr learned (LearningStopsBy (length (letters_of s)) (count_of (declared_of s)) a.extra a.max_states (answers_of kept)) → IsEndOf a s naming learned kept l g o p e d end → LeavesLast a.last (model_learned learned) (letters_of s) naming.names f l → EndsLeaving a s prior f g b z o p e d end
+unfolding ends_learned
+ends_leaving a s prior naming learned kept f l g b z o p e d end found gives stops whole last = record {
+  left = l;
+  learned = ends_learned a s prior naming learned kept l g b z o p e d end found gives stops whole;
+  last = subst (λ (m : Option MealyMachine). LeavesLast a.last m (letters_of s) naming.names f l) (sym (carried_model a.goal learned end whole.told.carries)) last;
+}
+
 -- and what a learning came to by the machine alone is what the end says
 pub plain_end : (goal : Goal) (a : LearnValues) (letters : ℕ) (words : List (List ℕ)) (prior : List KeptAnswer) (learned : Result Found LearnStop) (kept : List KeptAnswer) (end : End) → Carries goal learned end → end.kept.answers ≡ kept
     → RunsAsPlain a.learner a.testing letters a.extra a.max_states words learned prior kept → EndsPlainly a letters words prior end
@@ -485,7 +502,7 @@ task_ready a f m r t is stage = by (subst (λ (x : Result WordedTask UnreadState
     by : IsProbedStage a f m (Ok t) → SaysWorded a f m t
     by x = x.ok
 
-pub ends_read : (a : LearnValues) (f m g : FilesState) (b z : SpawnerState) (o p e d : SinkState) (end : End) (r : Result WordedTask UnreadState) (t : WordedTask) → r ≡ Ok t → IsProbedStage a f m r → EndsLearned a t.task.system t.task.cache.kept m g b z o p e d end → (end.model ≢ None → AnswersWords t.words end.kept.answers) → EndsPlainly a (length (letters_of t.task.system)) t.words t.task.cache.kept end → EndsRead a f g b z o p e d end
+pub ends_read : (a : LearnValues) (f m g : FilesState) (b z : SpawnerState) (o p e d : SinkState) (end : End) (r : Result WordedTask UnreadState) (t : WordedTask) → r ≡ Ok t → IsProbedStage a f m r → EndsLeaving a t.task.system t.task.cache.kept m g b z o p e d end → (end.model ≢ None → AnswersWords t.words end.kept.answers) → EndsPlainly a (length (letters_of t.task.system)) t.words t.task.cache.kept end → EndsRead a f g b z o p e d end
 ends_read a f m g b z o p e d end r t is stage learned answered plainly = by (subst (λ (x : Result WordedTask UnreadState). IsProbedStage a f m x) is stage)
   where
     by : IsProbedStage a f m (Ok t) → EndsRead a f g b z o p e d end
@@ -501,7 +518,7 @@ ends_read a f m g b z o p e d end r t is stage learned answered plainly = by (su
       quiet = x.quiet;
       same = x.same;
       unclashed = x.ok.ready.nothing;
-      learned = learned;
+      ended = learned;
       answered = answered;
       plainly = plainly;
     }

@@ -117,6 +117,7 @@ TellsRole role.Answers k holds name = ⊥
 TellsRole role.Second k holds name = ⊥
 TellsRole role.Words k holds name = ⊥
 TellsRole role.Kept k holds name = ⊥
+TellsRole role.Last k holds name = ⊥
 
 table_told : (kind : Source) (system : List ℕ) (holds : Option (List File)) (before now : List File) (name : List ℕ) (s : System) → IsTableNext kind system holds before now name → TellsSystem kind system holds s → (m : Machine) × TellsFile IsMachineFile holds name m
 table_told source.Table system holds before now name s next told = (told.0, subst (λ (n : List ℕ). TellsFile IsMachineFile holds n told.0) (sym next.0) told.1)
@@ -153,6 +154,7 @@ role_told a holds before now role.Answers name read s told next = absurd next
 role_told a holds before now role.Second name read s told next = absurd next
 role_told a holds before now role.Words name read s told next = absurd next
 role_told a holds before now role.Kept name read s told next = absurd next
+role_told a holds before now role.Last name read s told next = absurd next
 
 role_not_bad : (r : Role) (k : Goal) (name : List ℕ) (holds : Option (List File)) (now after : List File) (fault : JsonFault) → TellsRole r k holds name → ReadsBad r k name holds now after fault → ⊥
 role_not_bad role.Setup k name holds now after fault told bad = told_not_bad IsSetupFile IsSetupFault name holds now after fault told.0 told.1 bad
@@ -164,6 +166,7 @@ role_not_bad role.Answers k name holds now after fault told bad = told
 role_not_bad role.Second k name holds now after fault told bad = told
 role_not_bad role.Words k name holds now after fault told bad = told
 role_not_bad role.Kept k name holds now after fault told bad = told
+role_not_bad role.Last k name holds now after fault told bad = told
 
 role_not_long : (r : Role) (k : Goal) (name : List ℕ) (holds : Option (List File)) → TellsRole r k holds name → HoldsLong holds name → ⊥
 role_not_long role.Setup k name holds told long = told_not_long IsSetupFile IsSetupFault name holds told.0 told.1 long
@@ -174,6 +177,7 @@ role_not_long role.Answers k name holds told long = told
 role_not_long role.Second k name holds told long = told
 role_not_long role.Words k name holds told long = told
 role_not_long role.Kept k name holds told long = told
+role_not_long role.Last k name holds told long = told
 
 -- an acceptor's file that is told isn't bad
 view_not_bad : (name : List ℕ) (holds : Option (List File)) (now after : List File) (fault : AcceptorFault) (m : Machine) → TellsFile IsViewFile holds name m → ReadsBadFile IsAcceptorFile IsAcceptorFault name holds now after fault → ⊥

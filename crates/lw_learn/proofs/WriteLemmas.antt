@@ -4,7 +4,6 @@ use Rattle.lw_words.specs.Cause.{CountedFault}
 use Rattle.lw_words.specs.declared.kept.KeptAnswer.{KeptAnswer}
 use Rattle.lw_mealy.specs.Machine.{MealyMachine}
 use Rattle.lw_json.specs.AnswersText.{IsAnswersText}
-use Rattle.lw_json.specs.MachineText.{written_text}
 use Rattle.lw_json.specs.declared.files.Machine.{Machine}
 use Rattle.lw_outside.specs.Files.{Call, File, Holds}
 use Rattle.lw_report.specs.Stops.{tell_outcome}

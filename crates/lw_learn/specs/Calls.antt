@@ -7,7 +7,7 @@ use Rattle.lw_system.specs.Reads.{gained}
 use Rattle.lw_report.specs.declared.outcome.Outcome.{Outcome}
 use Rattle.lw_report.specs.declared.outcome.Outcome.TheVariants.{Accepted, Learned, NoMemory, FileFault, SinkFault}
 use Rattle.lw_report.specs.declared.role.Role.{Role}
-use Rattle.lw_report.specs.declared.role.Role.TheVariants.{Setup, Table, Model, Answers, Prior, Second, Words, Kept}
+use Rattle.lw_report.specs.declared.role.Role.TheVariants.{Setup, Table, Model, Answers, Prior, Second, Words, Kept, Last}
 
 -- the write of a file, where one is named
 abbrev pub write_of : Option (List ℕ) → Bool → List Call
@@ -28,6 +28,7 @@ writes_to a Prior = []
 writes_to a Second = []
 writes_to a Words = []
 writes_to a Kept = all_writes a
+writes_to a Last = []
 
 -- the writes of a call of `learn` that ended with the outcome
 abbrev pub MadeWrites : LearnValues → Outcome → Option (List Call) → Option (List Call) → Type 0

@@ -33,6 +33,7 @@ use Rattle.lw_learn.specs.Arguments.{LearnValues}
 use Rattle.lw_learn.specs.Asking.{IsWordlessTask, SaysWords}
 use Rattle.lw_learn.specs.Calls.{MadeWrites}
 use Rattle.lw_learn.specs.Findings.{IsOfSystem, LearningStopsBy}
+use Rattle.lw_learn.specs.Last.{LeavesLast}
 use Rattle.lw_learn.specs.Probes.{IsUnwritable, probes_of, written_files}
 use Rattle.lw_learn.specs.Outcomes.{IsBadLine, IsLearnedOutcome, IsReachedOutcome, ModelIsTold}
 use Rattle.lw_learn.specs.Saving.{HasSaved, IsSaved, KeptStand, MayTell}
@@ -163,6 +164,12 @@ pub record EndsLearned (a : LearnValues) (s : System) (prior : List KeptAnswer) 
       → IsReachedOutcome a.goal (length r) end.outcome ⊎ IsBadLine a.workers end.outcome
   pub told : IsEndOf a s naming learned end.kept.answers files_before files_now out_before out_now err_before err_now end
 
+-- the same, once the machine that is left at an end without a model was written
+pub record EndsLeaving (a : LearnValues) (s : System) (prior : List KeptAnswer) (files_before files_now : FilesState) (spawner_before spawner_now : SpawnerState) (out_before out_now : SinkState) (err_before err_now : SinkState) (end : End) : Type 0 where
+  pub left : FilesState
+  pub learned : EndsLearned a s prior left files_now spawner_before spawner_now out_before out_now err_before err_now end
+  pub last : LeavesLast a.last end.model (letters_of s) learned.naming.names files_before left
+
 -- a model of a table that was learned by the W-method with no walks and no prior answers is the plain learner's, with as many refinements, for each
 -- machine that gives all that is kept; and the words of what is kept are those taken from its batches in turn
 abbrev pub EndsPlainly : LearnValues → ℕ → List (List ℕ) → List KeptAnswer → End → Type 0
@@ -186,6 +193,6 @@ pub record EndsRead (a : LearnValues) (files_before files_now : FilesState) (spa
   pub same : middle.holds ≡ files_before.holds
   -- of two prior answers that clash nothing is learned
   pub unclashed : NothingClashes (answers_of prior)
-  pub learned : EndsLearned a system prior middle files_now spawner_before spawner_now out_before out_now err_before err_now end
+  pub ended : EndsLeaving a system prior middle files_now spawner_before spawner_now out_before out_now err_before err_now end
   pub answered : end.model ≢ None → AnswersWords words end.kept.answers
   pub plainly : EndsPlainly a (length (letters_of system)) words prior end

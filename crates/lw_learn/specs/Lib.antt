@@ -3,6 +3,7 @@ pub mod Asking
 pub mod Calls
 pub mod Ending
 pub mod Findings
+pub mod Last
 pub mod LearnRun
 pub mod Outcomes
 pub mod Probes

@@ -6,7 +6,7 @@ use Rattle.lw_outside.specs.Files.{Call, File, FilesState, probe_call}
 use Rattle.lw_report.specs.declared.outcome.Outcome.{Outcome}
 use Rattle.lw_report.specs.declared.outcome.Outcome.TheVariants.{FileFault, NoMemory}
 use Rattle.lw_report.specs.declared.role.Role.{Role}
-use Rattle.lw_report.specs.declared.role.Role.TheVariants.{Answers, Kept, Model}
+use Rattle.lw_report.specs.declared.role.Role.TheVariants.{Answers, Kept, Last, Model}
 use Rattle.lw_learn.specs.Arguments.{LearnValues}
 use Rattle.lw_learn.specs.Asking.{SaysWords}
 use Rattle.lw_learn.specs.Tasks.{ReadsTask}
@@ -20,7 +20,7 @@ Written = Role × Option (List ℕ)
 
 -- in the order in which they are written
 abbrev pub written_files : LearnValues → List Written
-written_files a = (Kept, a.kept) ∷ (Model, a.model) ∷ (Answers, a.answers) ∷ []
+written_files a = (Last, a.last) ∷ (Kept, a.kept) ∷ (Model, a.model) ∷ (Answers, a.answers) ∷ []
 
 -- the probes of files where none fails, of those that are named
 abbrev pub probes_before : Option (List ℕ) → List Call → List Call

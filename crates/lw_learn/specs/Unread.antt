@@ -47,6 +47,7 @@ IsNext a holds before now role.Answers name read = ⊥
 IsNext a holds before now role.Second name read = ⊥
 IsNext a holds before now role.Words name read = ⊥
 IsNext a holds before now role.Kept name read = ⊥
+IsNext a holds before now role.Last name read = ⊥
 
 -- the bytes that were read of the file in a role have this first fault; an acceptor's file has others
 abbrev pub ReadsBad : Role → Goal → List ℕ → Option (List File) → List File → List File → JsonFault → Type 0
@@ -59,6 +60,7 @@ ReadsBad role.Answers goal name holds before after fault = ⊥
 ReadsBad role.Second goal name holds before after fault = ⊥
 ReadsBad role.Words goal name holds before after fault = ⊥
 ReadsBad role.Kept goal name holds before after fault = ⊥
+ReadsBad role.Last goal name holds before after fault = ⊥
 
 -- the bytes that were read of an acceptor file have this first fault
 pub record ReadsBadAcceptor (a : LearnValues) (files_before files_now : FilesState) (fault : AcceptorFault) : Type 0 where

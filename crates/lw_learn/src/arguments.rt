@@ -8,19 +8,21 @@ use lw_system::{Goal, Source};
 use std::marker::Model;
 
 /// The files that `learn` is given beside the system's, where they are: for the model and for the answers, which are to be written,
-/// of prior answers, for the answers that are kept at any end, of the words that are asked first, and for the log.
+/// of prior answers, for the answers that are kept at any end, for the machine that is left at an end without a model, of the words
+/// that are asked first, and for the log.
 #[derive(Drop)]
 pub struct LearnFiles {
     pub model: Option<String>,
     pub answers: Option<String>,
     pub prior: Option<String>,
     pub kept: Option<String>,
+    pub last: Option<String>,
     pub words: Option<String>,
     pub log: Option<String>,
 }
 
 /// The values of the arguments of `learn` and of `accept`: what is learned, the file of the system and its kind, the settings of
-/// the learning, the words that are drawn to be asked first, and the other files.
+/// the learning, the words that are drawn to be asked first, the other files, and whether progress is told.
 #[derive(Drop)]
 pub struct LearnArguments {
     goal: Goal,
@@ -29,6 +31,7 @@ pub struct LearnArguments {
     settings: Settings,
     drawn: Option<Drawn>,
     files: LearnFiles,
+    verbose: bool,
 }
 
 impl Model for LearnArguments {
@@ -50,9 +53,11 @@ impl Model for LearnArguments {
       answers = option_map (λ s. string_bytes s) a.files.answers;
       prior = option_map (λ s. string_bytes s) a.files.prior;
       kept = option_map (λ s. string_bytes s) a.files.kept;
+      last = option_map (λ s. string_bytes s) a.files.last;
       words = option_map (λ s. string_bytes s) a.files.words;
       drawn = a.drawn;
       log = option_map (λ s. string_bytes s) a.files.log;
+      verbose = a.verbose;
     } };
 
     ghost invariant = { λ a. AreWithinLimits (record {
@@ -68,9 +73,11 @@ impl Model for LearnArguments {
       answers = option_map (λ s. string_bytes s) a.files.answers;
       prior = option_map (λ s. string_bytes s) a.files.prior;
       kept = option_map (λ s. string_bytes s) a.files.kept;
+      last = option_map (λ s. string_bytes s) a.files.last;
       words = option_map (λ s. string_bytes s) a.files.words;
       drawn = a.drawn;
       log = option_map (λ s. string_bytes s) a.files.log;
+      verbose = a.verbose;
     }) };
 }
 
@@ -83,6 +90,7 @@ impl LearnArguments {
         settings: Settings,
         drawn: Option<Drawn>,
         files: LearnFiles,
+        verbose: bool,
     ) -> LearnArguments
         requires { IfSome drawn AreFewDrawn }
         ensures { result ≡ record {
@@ -98,9 +106,11 @@ impl LearnArguments {
           answers = option_map (λ s. string_bytes s) files.answers;
           prior = option_map (λ s. string_bytes s) files.prior;
           kept = option_map (λ s. string_bytes s) files.kept;
+          last = option_map (λ s. string_bytes s) files.last;
           words = option_map (λ s. string_bytes s) files.words;
           drawn = drawn;
           log = option_map (λ s. string_bytes s) files.log;
+          verbose = verbose;
         } }
     {
         LearnArguments {
@@ -110,6 +120,7 @@ impl LearnArguments {
             settings,
             drawn,
             files,
+            verbose,
         }
     }
 
@@ -176,6 +187,13 @@ impl LearnArguments {
         text_of(&self.files.kept)
     }
 
+    /// The name of the file for the machine that is left at an end without a model.
+    pub fn last(&self) -> Option<&str>
+        ensures { option_map (λ s. s.now) result ≡ self.now.last }
+    {
+        text_of(&self.files.last)
+    }
+
     /// The name of the file of words that are asked first.
     pub fn words(&self) -> Option<&str>
         ensures { option_map (λ s. s.now) result ≡ self.now.words }
@@ -189,6 +207,13 @@ impl LearnArguments {
         ensures limits { IfSome result AreFewDrawn }
     {
         self.drawn
+    }
+
+    /// Whether progress is told on standard error.
+    pub fn verbose(&self) -> bool
+        ensures { result ≡ self.now.verbose }
+    {
+        self.verbose
     }
 
     /// The name of the file of the log.

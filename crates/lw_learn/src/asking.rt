@@ -7,11 +7,12 @@ ghost use Rattle.lw_learn.specs.bodies.Ready.{IsReady};
 ghost use Rattle.lw_learn.specs.bodies.Stages.{HasNamed, HasNamedWords, HasWorded, IsWordedStage, SaysNoWords};
 
 use crate::LearnArguments;
+use crate::notes::note_letter;
 use crate::reading::{Unread, read_task};
 use crate::task::{Task, WordedTask};
 use lw_draw::{Drawn, draw_words};
 use lw_log::Log;
-use lw_outside::{Files, LogFile};
+use lw_outside::{Files, LogFile, Sink};
 use lw_report::{Outcome, Role, read_outcome};
 use lw_system::ReadStop;
 use lw_wordlist::{WordStop, read_lines};
@@ -34,12 +35,13 @@ fn words_in(alloc: Global, inputs: &Names, bytes: &[u8]) -> Result<Words, Outcom
     }
 }
 
-/// Reads the words of the file of this name.
-fn read_named<F: Files>(
+/// Reads the words of the file of this name. A letter that is no input is noted.
+fn read_named<F: Files, L: LogFile, N: Sink>(
     alloc: Global,
     name: &str,
     inputs: &Names,
     files: &mut F,
+    log: &mut Log<L, N>,
 ) -> Result<Words, Outcome>
     ensures { HasNamed name.now inputs.now (F.state files.old) (F.state files.new) result }
 {
@@ -47,21 +49,24 @@ fn read_named<F: Files>(
         Ok(bytes) => bytes,
         Err(refusal) => return Err(read_outcome(ReadStop::from(refusal), Role::Words)),
     };
-    words_in(alloc, inputs, &bytes)
+    let words = words_in(alloc, inputs, &bytes);
+    note_letter(alloc, bytes.as_slice(), &words, log);
+    words
 }
 
 /// The words of the file that is named for them, if one is.
-fn named_words<F: Files>(
+fn named_words<F: Files, L: LogFile, N: Sink>(
     alloc: Global,
     arguments: &LearnArguments,
     inputs: &Names,
     files: &mut F,
+    log: &mut Log<L, N>,
 ) -> Result<Words, Outcome>
     ensures { HasNamedWords arguments.now.words inputs.now (F.state files.old) (F.state files.new)
         result }
 {
     match arguments.words() {
-        Some(name) => read_named(alloc, name, inputs, files),
+        Some(name) => read_named(alloc, name, inputs, files, log),
         None => Ok(Words::new(alloc)),
     }
 }
@@ -118,15 +123,16 @@ fn with_drawn(
 }
 
 /// The words that are asked before the rounds.
-fn words_to_ask<F: Files>(
+fn words_to_ask<F: Files, L: LogFile, N: Sink>(
     alloc: Global,
     arguments: &LearnArguments,
     inputs: &Names,
     files: &mut F,
+    log: &mut Log<L, N>,
 ) -> Result<Words, Outcome>
     ensures { HasWorded arguments.now inputs.now (F.state files.old) (F.state files.new) result }
 {
-    let named = named_words(alloc, arguments, inputs, files)?;
+    let named = named_words(alloc, arguments, inputs, files, log)?;
     match with_drawn(alloc, arguments, inputs, named) {
         Ok(words) => Ok(words),
         Err(NoMemory) => Err(Outcome::NoMemory),
@@ -158,16 +164,16 @@ fn wordless(alloc: Global, task: Task, outcome: Outcome) -> Unread
 }
 
 /// Reads what is to be learned, and then the words that are asked first, where a file is named for them.
-pub(crate) fn read_worded<F: Files, L: LogFile>(
+pub(crate) fn read_worded<F: Files, L: LogFile, N: Sink>(
     alloc: Global,
     arguments: &LearnArguments,
     files: &mut F,
-    log: &mut Log<L>,
+    log: &mut Log<L, N>,
 ) -> Result<WordedTask, Unread>
     ensures { IsWordedStage arguments.now (F.state files.old) (F.state files.new) result }
 {
     let task = read_task(alloc, arguments, files, log)?;
-    match words_to_ask(alloc, arguments, task.system.inputs(), files) {
+    match words_to_ask(alloc, arguments, task.system.inputs(), files, log) {
         Ok(words) => Ok(WordedTask { task, words }),
         Err(outcome) => Err(wordless(alloc, task, outcome)),
     }

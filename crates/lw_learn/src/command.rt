@@ -4,7 +4,7 @@ ghost use Rattle.std.specs.List.{All};
 ghost use Rattle.lw_words.specs.Word.{IsWord};
 ghost use Rattle.lw_workers.specs.Asking.{AnswersWords};
 ghost use Rattle.lw_report.specs.Outcomes.{status_of};
-ghost use Rattle.lw_learn.specs.Ending.{EndsLearned, EndsPlainly};
+ghost use Rattle.lw_learn.specs.Ending.{EndsLeaving, EndsPlainly};
 ghost use Rattle.lw_learn.specs.LearnRun.{IsLearnEnd, IsLearnRun};
 ghost use Rattle.lw_system.specs.Goals.{IsSystemFor};
 ghost use Rattle.lw_system.specs.Systems.{letters_of};
@@ -12,11 +12,14 @@ ghost use Rattle.lw_learn.specs.bodies.Ready.{IsReady};
 
 use crate::LearnArguments;
 use crate::ending::finish;
+use crate::last::leave_last;
 use crate::learning::learn_system;
 use crate::logging::{log_end, log_stop, log_unread, open_log, say_log, unread_text};
+use crate::notes::{note_end, note_file, note_prior};
 use crate::probing::read_probed;
 use crate::refusing::end_unread;
 use crate::task::{Task, WordedTask};
+use crate::watching::Watch;
 use lw_log::Log;
 use lw_outside::{Files, LogFile, Sink, Spawner, World};
 use lw_report::End;
@@ -34,19 +37,20 @@ fn learn_read<
     O: Sink,
     E: Sink,
     L: LogFile,
+    N: Sink,
 >(
     rt: R,
     alloc: Global,
     arguments: &LearnArguments,
     worded: WordedTask,
-    world: &mut World<F, P, I, O, E, Log<L>>,
+    world: &mut World<F, P, I, O, E, Log<L, N>>,
 ) -> End
     requires ready { IsReady worded.task.system worded.task.names worded.task.cache }
     requires fits { IsSystemFor arguments.now.goal worded.task.system }
     requires letters { All (IsWord (length (letters_of worded.task.system))) worded.words }
     requires batch { length worded.words < 2 ^ 32 }
     ensures status { result.status ≡ status_of result.outcome }
-    ensures learned { EndsLearned arguments.now worded.task.system worded.task.cache.kept
+    ensures learned { EndsLeaving arguments.now worded.task.system worded.task.cache.kept
         (F.state world.old.files) (F.state world.new.files)
         (P.state world.old.spawner) (P.state world.new.spawner)
         (O.state world.old.out) (O.state world.new.out)
@@ -62,29 +66,31 @@ fn learn_read<
         names,
         cache,
     } = task;
+    note_prior(alloc, arguments, &cache, &mut world.log);
+    let start = Start {
+        names,
+        cache,
+        words,
+    };
+    let mut watch = Watch::new(alloc, &mut world.log, arguments.last().is_some());
     let found = learn_system(
         rt,
         alloc,
         &mut world.spawner,
         arguments,
         &system,
-        Start {
-            names,
-            cache,
-            words,
-        },
-        &mut world.log,
+        start,
+        &mut watch,
     );
-    log_stop(
-        alloc,
-        &world.spawner,
-        system.inputs(),
-        &found,
-        &mut world.log,
-    );
+    let last = watch.into_last();
+    let (spawner, log) = (&world.spawner, &mut world.log);
+    log_stop(alloc, spawner, system.inputs(), &found, log);
+    note_end(alloc, &system, &found, log);
     let (files, out, err) = (&mut world.files, &mut world.out, &mut world.err);
+    leave_last(alloc, arguments, &system, &found, last, files);
     let end = finish(alloc, arguments, &system, found, files, out, err);
     log_end(alloc, &system, &end, arguments.extra(), &mut world.log);
+    note_file(alloc, arguments, &end.outcome, &mut world.log);
     end
 }
 
@@ -97,7 +103,13 @@ fn learn_logged<
     O: Sink,
     E: Sink,
     L: LogFile,
->(rt: R, alloc: Global, arguments: &LearnArguments, world: &mut World<F, P, I, O, E, Log<L>>) -> End
+    N: Sink,
+>(
+    rt: R,
+    alloc: Global,
+    arguments: &LearnArguments,
+    world: &mut World<F, P, I, O, E, Log<L, N>>,
+) -> End
     ensures status { result.status ≡ status_of result.outcome }
     ensures ends { IsLearnEnd arguments.now
         (F.state world.old.files) (F.state world.new.files)
@@ -113,6 +125,7 @@ fn learn_logged<
         Ok(worded) => learn_read(rt, alloc, arguments, worded, world),
         Err(unread) => {
             let text = unread_text(alloc, &unread, arguments.extra());
+            note_file(alloc, arguments, &unread.outcome, &mut world.log);
             let end = end_unread(alloc, arguments, unread, &mut world.files, &mut world.err);
             log_unread(&end, text, &mut world.log);
             end
@@ -139,7 +152,13 @@ pub fn learn<
     O: Sink,
     E: Sink,
     L: LogFile,
->(rt: R, alloc: Global, arguments: &LearnArguments, world: &mut World<F, P, I, O, E, Log<L>>) -> End
+    N: Sink,
+>(
+    rt: R,
+    alloc: Global,
+    arguments: &LearnArguments,
+    world: &mut World<F, P, I, O, E, Log<L, N>>,
+) -> End
     ensures status { result.status ≡ status_of result.outcome }
     ensures run { IsLearnRun arguments.now
         (F.state world.old.files) (F.state world.new.files)

@@ -20,7 +20,7 @@ use std::alloc::Global;
 const NO_MEMORY: &[u8] = b"no memory\n";
 
 /// Puts the run that a child cut off when it stopped.
-fn log_cut<L: LogFile>(inputs: &Names, cut: &CutRun, log: &mut Log<L>) {
+fn log_cut<L: LogFile, N: Sink>(inputs: &Names, cut: &CutRun, log: &mut Log<L, N>) {
     let received = match &cut.received {
         Some(line) => Some(line.as_slice()),
         None => None,
@@ -35,12 +35,12 @@ fn log_cut<L: LogFile>(inputs: &Names, cut: &CutRun, log: &mut Log<L>) {
 }
 
 /// Puts what stopped a learning midway: the run that was cut off, or why no child was started.
-pub(crate) fn log_stop<P: Spawner, L: LogFile>(
+pub(crate) fn log_stop<P: Spawner, L: LogFile, N: Sink>(
     alloc: Global,
     spawner: &P,
     inputs: &Names,
     found: &LearningOutcome,
-    log: &mut Log<L>,
+    log: &mut Log<L, N>,
 ) {
     if let Some(cut) = &found.cut {
         log_cut(inputs, cut, log);
@@ -78,16 +78,16 @@ fn end_text(alloc: Global, system: &System, end: &End, extra: u8) -> Result<Stri
 }
 
 /// Puts the text of the outcome of a call that learned a system.
-pub(crate) fn log_end<L: LogFile>(
+pub(crate) fn log_end<L: LogFile, N: Sink>(
     alloc: Global,
     system: &System,
     end: &End,
     extra: u8,
-    log: &mut Log<L>,
+    log: &mut Log<L, N>,
 ) {
     match end.outcome {
-        Outcome::NoMemory => log.text(NO_MEMORY),
-        _ => log.line(end_text(alloc, system, end, extra)),
+        Outcome::NoMemory => log.file_text(NO_MEMORY),
+        _ => log.file_line(end_text(alloc, system, end, extra)),
     }
 }
 
@@ -99,22 +99,33 @@ pub(crate) fn unread_text(alloc: Global, unread: &Unread, extra: u8) -> Result<S
 }
 
 /// Puts the text of the outcome of a call that began no learning, which stands but where memory ran out since.
-pub(crate) fn log_unread<L: LogFile>(end: &End, text: Result<String, NoMemory>, log: &mut Log<L>) {
+pub(crate) fn log_unread<L: LogFile, N: Sink>(
+    end: &End,
+    text: Result<String, NoMemory>,
+    log: &mut Log<L, N>,
+) {
     match end.outcome {
-        Outcome::NoMemory => log.text(NO_MEMORY),
-        _ => log.line(text),
+        Outcome::NoMemory => log.file_text(NO_MEMORY),
+        _ => log.file_line(text),
     }
 }
 
-/// Opens the log, where one is named.
-pub(crate) fn open_log<L: LogFile>(arguments: &LearnArguments, log: &mut Log<L>) {
+/// Opens the log, where one is named, and notes what it gets on standard error, where that is wanted.
+pub(crate) fn open_log<L: LogFile, N: Sink>(arguments: &LearnArguments, log: &mut Log<L, N>) {
+    if arguments.verbose() {
+        log.be_verbose();
+    }
     if let Some(name) = arguments.log() {
         log.open(name);
     }
 }
 
 /// Says on `err` that a log that is named isn't open, so that it isn't whole.
-pub(crate) fn say_log<L: LogFile, E: Sink>(arguments: &LearnArguments, log: &Log<L>, err: &mut E)
+pub(crate) fn say_log<L: LogFile, N: Sink, E: Sink>(
+    arguments: &LearnArguments,
+    log: &Log<L, N>,
+    err: &mut E,
+)
     ensures { SaysLog arguments.now.log log.now.state (E.state err.old) (E.state err.new) }
 {
     if arguments.log().is_none() {

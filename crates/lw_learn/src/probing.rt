@@ -2,14 +2,14 @@
 ghost use Rattle.std.specs.Prelude.{◌≡◌, ◌∷◌, [], Some, option_map};
 ghost use Rattle.lw_learn.specs.Probes.{written_files};
 ghost use Rattle.lw_learn.specs.bodies.Probing.{HasProbed, HasTried, IsProbedStage, unprobed_outcome};
-ghost use Rattle.lw_report.specs.declared.role.Role.TheVariants.{Answers as AnswersRole, Model as ModelRole};
+ghost use Rattle.lw_report.specs.declared.role.Role.TheVariants.{Answers as AnswersRole, Kept as KeptRole, Model as ModelRole};
 
 use crate::LearnArguments;
 use crate::asking::read_worded;
 use crate::reading::Unread;
 use crate::task::{Task, WordedTask};
 use lw_log::Log;
-use lw_outside::{Files, LogFile, WriteStop};
+use lw_outside::{Files, LogFile, Sink, WriteStop};
 use lw_report::{Outcome, Role};
 use std::alloc::Global;
 
@@ -56,13 +56,25 @@ fn probe_told<F: Files>(arguments: &LearnArguments, files: &mut F) -> Result<(),
     }
 }
 
+/// Probes the recorded answers' file, then the model's and the answers'.
+fn probe_saved<F: Files>(arguments: &LearnArguments, files: &mut F) -> Result<(), Outcome>
+    ensures { HasProbed ((KeptRole, arguments.now.kept) ∷ (ModelRole, arguments.now.model) ∷
+        (AnswersRole, arguments.now.answers) ∷ []) (F.state files.old) (F.state files.new)
+        result }
+{
+    match probe_named(files, Role::Kept, arguments.kept()) {
+        Ok(()) => probe_told(arguments, files),
+        Err(outcome) => Err(outcome),
+    }
+}
+
 /// Probes the files that will be written, in the order in which they are, up to the first that can't be.
 fn probe_files<F: Files>(arguments: &LearnArguments, files: &mut F) -> Result<(), Outcome>
     ensures { HasProbed (written_files arguments.now) (F.state files.old) (F.state files.new)
         result }
 {
-    match probe_named(files, Role::Kept, arguments.kept()) {
-        Ok(()) => probe_told(arguments, files),
+    match probe_named(files, Role::Last, arguments.last()) {
+        Ok(()) => probe_saved(arguments, files),
         Err(outcome) => Err(outcome),
     }
 }
@@ -101,11 +113,11 @@ fn probe_for<F: Files>(
 }
 
 /// Reads what is to be learned and the words that are asked first, and then probes the files that will be written.
-pub(crate) fn read_probed<F: Files, L: LogFile>(
+pub(crate) fn read_probed<F: Files, L: LogFile, N: Sink>(
     alloc: Global,
     arguments: &LearnArguments,
     files: &mut F,
-    log: &mut Log<L>,
+    log: &mut Log<L, N>,
 ) -> Result<WordedTask, Unread>
     ensures { IsProbedStage arguments.now (F.state files.old) (F.state files.new) result }
 {

@@ -14,12 +14,13 @@ ghost use Rattle.lw_learn.specs.bodies.Ready.{IsReady};
 ghost use Rattle.lw_learn.specs.bodies.Stages.{HasPrior, IsBack, IsClash, IsStage, IsTaskWith, IsUnfit, SaysReady, SaysWhole};
 
 use crate::LearnArguments;
+use crate::notes::note_misfit;
 use crate::task::Task;
 use lw_cache::Cache;
 use lw_json::{Answers, Command, JsonFault};
 use lw_log::Log;
 use lw_names::OutNames;
-use lw_outside::{Files, LogFile};
+use lw_outside::{Files, LogFile, Sink};
 use lw_prior::{Prior, PriorStop, prior_of};
 use lw_report::{Outcome, Role, no_system_outcome};
 use lw_system::{Found, ReadStop, System, find_for, read_answers_file};
@@ -65,11 +66,11 @@ impl Unread {
 
 /// Reads the system that is to be learned: the setup or the table file, and the table file that a setup names, which is a
 /// machine's, or an acceptor's where one is to be learned. The log is told the first member that the setup doesn't know.
-fn read_whole<F: Files, L: LogFile>(
+fn read_whole<F: Files, L: LogFile, N: Sink>(
     alloc: Global,
     arguments: &LearnArguments,
     files: &mut F,
-    log: &mut Log<L>,
+    log: &mut Log<L, N>,
 ) -> Result<System, Unread>
     ensures { IsStage arguments.now (F.state files.old) (F.state files.new)
         (SaysWhole arguments.now (F.state files.old) (F.state files.new)) result }
@@ -197,8 +198,14 @@ fn outputs_or(alloc: Global, system: &System, names: &Names) -> Result<(Names, O
     Ok((names, shared))
 }
 
-/// The task of a system with these prior answers. All names are made before an answer is kept.
-fn with_answers(alloc: Global, system: System, answers: Answers) -> Result<Task, Unread>
+/// The task of a system with these prior answers. All names are made before an answer is kept. The first name that doesn't fit is
+/// noted.
+fn with_answers<L: LogFile, N: Sink>(
+    alloc: Global,
+    system: System,
+    answers: Answers,
+    log: &mut Log<L, N>,
+) -> Result<Task, Unread>
     requires letters { length (letters_of system) ≤ 64 }
     requires words { HasWords system }
     ensures ok { IfOk result (IsTaskWith system answers) }
@@ -207,6 +214,7 @@ fn with_answers(alloc: Global, system: System, answers: Answers) -> Result<Task,
     let Ok((names, shared)) = outputs_or(alloc, &system, &answers.outputs) else {
         return Err(Unread::bare(alloc, Outcome::NoMemory, None));
     };
+    note_misfit(alloc, &answers, system.inputs(), &names, log);
     match prior_of(alloc, answers, system.inputs(), &names) {
         Ok(prior) => join_prior(system, names, shared, prior),
         Err(PriorStop::NamesDiffer) => Err(Unread::bare(
@@ -236,36 +244,37 @@ fn unread_prior(alloc: Global, system: System, stop: ReadStop<JsonFault>) -> Unr
 }
 
 /// Reads the prior answers of a system.
-fn read_prior<F: Files>(
+fn read_prior<F: Files, L: LogFile, N: Sink>(
     alloc: Global,
     system: System,
     name: &str,
     files: &mut F,
+    log: &mut Log<L, N>,
 ) -> Result<Task, Unread>
     requires letters { length (letters_of system) ≤ 64 }
     requires words { HasWords system }
     ensures { HasPrior name.now system (F.state files.old) (F.state files.new) result }
 {
     match read_answers_file(alloc, files, name) {
-        Ok(answers) => with_answers(alloc, system, answers),
+        Ok(answers) => with_answers(alloc, system, answers, log),
         Err(stop) => Err(unread_prior(alloc, system, stop)),
     }
 }
 
 /// Reads what is to be learned: the setup or the table file, the table file that a setup names, and the prior answers, in this
 /// order.
-pub(crate) fn read_task<F: Files, L: LogFile>(
+pub(crate) fn read_task<F: Files, L: LogFile, N: Sink>(
     alloc: Global,
     arguments: &LearnArguments,
     files: &mut F,
-    log: &mut Log<L>,
+    log: &mut Log<L, N>,
 ) -> Result<Task, Unread>
     ensures { IsStage arguments.now (F.state files.old) (F.state files.new)
         (SaysReady arguments.now (F.state files.old) (F.state files.new)) result }
 {
     let system = read_whole(alloc, arguments, files, log)?;
     match arguments.prior() {
-        Some(name) => read_prior(alloc, system, name, files),
+        Some(name) => read_prior(alloc, system, name, files, log),
         None => fresh_task(alloc, system),
     }
 }

@@ -65,8 +65,8 @@ fn kept_text(
     answers_text(alloc, inputs, &outputs, kept)
 }
 
-/// Writes the file of the recorded answers.
-fn write_kept<F: Files>(files: &mut F, name: &str, bytes: &[u8]) -> Saved
+/// Writes a text under a name.
+pub(crate) fn write_text<F: Files>(files: &mut F, name: &str, bytes: &[u8]) -> Saved
     ensures written { IsWritten name.now bytes.now (F.state files.old) (F.state files.new)
         result }
     ensures beside { StaysBesides (Some name.now) None None (F.state files.old).holds
@@ -100,7 +100,7 @@ fn save_as<F: Files>(
     ensures counts { (F.state files.old).faults ≤ (F.state files.new).faults }
 {
     match kept_text(alloc, inputs, names, kept) {
-        Ok(text) => write_kept(files, name, &text),
+        Ok(text) => write_text(files, name, &text),
         Err(NoMemory) => Saved::NoMemory,
     }
 }

@@ -17,6 +17,7 @@ use std::thread::Threads;
 
 mod asking;
 mod kept;
+mod notes;
 
 const TWO: &str =
     "{\"inputs\":[\"t\"],\"outputs\":[\"0\",\"1\"],\"states\":[[[1,\"0\"]],[[0,\"1\"]]]}";
@@ -25,9 +26,16 @@ const TWO: &str =
 const CHILD: &str = "{\"command\":[\"child\"],\"inputs\":[\"t\"]}";
 
 /// What a call is over, in memory. No call reads an input.
-type Outside = World<MemoryFiles, MemorySpawner, (), MemorySink, MemorySink, Log<MemoryLog>>;
+type Outside = World<
+    MemoryFiles,
+    MemorySpawner,
+    (),
+    MemorySink,
+    MemorySink,
+    Log<MemoryLog, MemorySink>,
+>;
 
-/// These files, children and log, and two empty streams.
+/// These files, children and log, and three empty streams, of which one is for notes.
 fn outside_of(
     rt: &impl Abort,
     alloc: Global,
@@ -41,7 +49,7 @@ fn outside_of(
         input: (),
         out: sink(rt, alloc),
         err: sink(rt, alloc),
-        log: Log::new(alloc, log),
+        log: Log::new(alloc, log, sink(rt, alloc)),
     }
 }
 
@@ -202,10 +210,11 @@ fn bare(source: Source, system: String, settings: Settings) -> LearnArguments {
         answers: None,
         prior: None,
         kept: None,
+        last: None,
         words: None,
         log: None,
     };
-    LearnArguments::new(Goal::Machine, source, system, settings, None, files)
+    LearnArguments::new(Goal::Machine, source, system, settings, None, files, false)
 }
 
 /// The outcome of a learning of `m` at a limit of states.

@@ -69,6 +69,7 @@ fn arguments(rt: &impl Abort, alloc: Global, row: &Row) -> LearnArguments
         answers: None,
         prior: named(rt, alloc, "p", row.prior.is_some()),
         kept: named(rt, alloc, "k", true),
+        last: None,
         words: named(rt, alloc, "w", row.drawn.is_none()),
         log: named(rt, alloc, "l", row.is_logged),
     };
@@ -79,6 +80,7 @@ fn arguments(rt: &impl Abort, alloc: Global, row: &Row) -> LearnArguments
         settings,
         row.drawn,
         files,
+        false,
     )
 }
 
@@ -272,6 +274,7 @@ fn by_setup(rt: &impl Abort, alloc: Global) -> LearnArguments {
         answers: None,
         prior: None,
         kept: None,
+        last: None,
         words: None,
         log: named(rt, alloc, "l", true),
     };
@@ -282,6 +285,7 @@ fn by_setup(rt: &impl Abort, alloc: Global) -> LearnArguments {
         settings,
         None,
         files,
+        false,
     )
 }
 

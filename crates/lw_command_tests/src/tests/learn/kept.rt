@@ -92,6 +92,7 @@ fn arguments(rt: &impl Abort, alloc: Global, row: &Row) -> LearnArguments
         answers: named(rt, alloc, "a", row.to_files),
         prior: named(rt, alloc, "p", row.prior.is_some()),
         kept: named(rt, alloc, "k", true),
+        last: None,
         words: None,
         log: None,
     };
@@ -102,6 +103,7 @@ fn arguments(rt: &impl Abort, alloc: Global, row: &Row) -> LearnArguments
         settings,
         None,
         files,
+        false,
     )
 }
 

@@ -28,7 +28,7 @@ returns g c =
     let f = F.state before in
     let h = F.state now in
     let read = c.in-Ok.ensures in
-    let words = c.words_in.ensures in
-    named_read c.args.name.now c.args.inputs.now f h c.deref.result.now c.words_in.result
+    let words = c.words_in-words.ensures in
+    named_read c.args.name.now c.args.inputs.now f h c.deref.result.now c.words_in-words.result
     (record { given = subst (λ (bytes : List ℕ). (F.state now).reads ≡ (F.state before).reads ++ (c.args.name.now, bytes) ∷ []) (sym c.deref.ensures.value) read.given; short = subst (λ (bytes : List ℕ). length bytes ≤ longest_file) (sym c.deref.ensures.value) read.short; held = subst (λ (bytes : List ℕ). Holds (F.state before).holds c.args.name.now bytes) (sym c.deref.ensures.value) read.told })
     read.ok read.quiet read.same read.counts words.ok words.words words.err

@@ -61,7 +61,8 @@ returns-in-Ok-clause-ends g c =
 pub returns-in-Ok-clause-counts : goal.returns-in-Ok-clause-counts
 returns-in-Ok-clause-counts g c =
     let read = c.read_probed.ensures.counts in
-    let learned = c.learn_read.ensures.learned.told.counts in
+    let learned = c.learn_read.ensures.learned.learned.told.counts in
+    let left = c.learn_read.ensures.learned.last.counts in
     let files = learned.0 in
     (omega arith, learned.1, learned.2)
 

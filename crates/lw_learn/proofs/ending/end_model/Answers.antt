@@ -1,4 +1,4 @@
-use Rattle.std.proofs.Common.{◌≡◌, ◌∙◌, ◌≤◌, List, [], ℕ, Some, ap, subst, subst₂, sym}
+use Rattle.std.proofs.Common.{◌≡◌, ◌∙◌, [], ℕ, Some, ap, subst, sym}
 use Rattle.lw_mealy.specs.Machine.{MealyMachine}
 use Rattle.lw_rounds.specs.Learner.{refinements_of}
 use Rattle.lw_report.specs.declared.outcome.Outcome.{Outcome}

@@ -1,4 +1,4 @@
-use Rattle.std.proofs.Common.{◌≡◌, ◌∙◌, ℕ, length, ap, sym}
+use Rattle.std.proofs.Common.{◌∙◌, ℕ, length, ap, sym}
 use Rattle.lw_accept.proofs.ViewLemmas.{states}
 use Rattle.lw_mealy.specs.Machine.{Rows}
 use Rattle.lw_report.specs.declared.outcome.Outcome.{Outcome as Came}

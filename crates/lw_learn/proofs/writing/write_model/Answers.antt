@@ -1,8 +1,6 @@
-use Rattle.std.proofs.Common.{◌≡◌, ◌∙◌, List, ℕ, Option, Err, ap, subst, sym}
+use Rattle.std.proofs.Common.{◌≡◌, List, ℕ, Option, Err, ap, subst, sym}
 use Rattle.lw_outside.specs.Files.{Call}
 use Rattle.lw_report.specs.Stops.{tell_outcome}
-use Rattle.lw_report.specs.Text.{text_of}
-use Rattle.lw_report.specs.Writing.{TakesAll, TakesSome}
 use Rattle.lw_report.specs.declared.outcome.Outcome.{Outcome}
 use Rattle.lw_report.specs.declared.role.Role.TheVariants.{Kept}
 use Rattle.lw_report.specs.declared.stops.TellStop.{TellStop}

@@ -1,0 +1,23 @@
+use Rattle.std.proofs.Common.{ℕ, List, [], ◌∷◌, Option, Ok, Err, subst}
+use Rattle.lw_report.specs.declared.role.Role.TheVariants.{Answers, Kept, Model}
+use Rattle.lw_learn.specs.bodies.Probing.{HasProbed}
+use Rattle.lw_learn.proofs.ProbeLemmas.{not_probed, then_probed}
+use Rattle.lw_learn.proofs.probing.probe_saved.Goals as goal
+
+pub returns-in-Ok : goal.returns-in-Ok
+returns-in-Ok g c =
+    let F = g.F.Files in
+    let a = c.args.arguments.now in
+    let b = F.state c.args.files.now in
+    let m = F.state c.probe_named.new.files in
+    then_probed (Kept, a.kept) ((Model, a.model) ∷ (Answers, a.answers) ∷ []) b m (F.state c.probe_told.new.files) c.probe_told.result
+    (subst (λ (x : Option (List ℕ)). HasProbed ((Kept, x) ∷ []) b m (Ok tt)) c.kept.ensures c.in-Ok.ensures)
+    c.probe_told.ensures
+
+pub returns-in-Err : goal.returns-in-Err
+returns-in-Err g c =
+    let F = g.F.Files in
+    let a = c.args.arguments.now in
+    let b = F.state c.args.files.now in
+    let m = F.state c.probe_named.new.files in
+    not_probed (Kept, a.kept) ((Model, a.model) ∷ (Answers, a.answers) ∷ []) b m c.in-Err.outcome (subst (λ (x : Option (List ℕ)). HasProbed ((Kept, x) ∷ []) b m (Err c.in-Err.outcome)) c.kept.ensures c.in-Err.ensures)
