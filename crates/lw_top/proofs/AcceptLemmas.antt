@@ -91,25 +91,25 @@ module _ (a : LearnValues) (before now : WorldState) (end : End) (run : IsLearnR
   Read = EndsRead a before.files now.files before.spawner now.spawner before.out now.out before.err run.told end
 
   module _ (r : Read) (l : Found) (c : Carries a.goal (Ok l) end) where
-    has : HasModel a.learner a.testing (length (letters_of r.system)) (length r.learned.naming.names) a.extra a.max_states end l.model
-    has = some_is (HasModel a.learner a.testing (length (letters_of r.system)) (length r.learned.naming.names) a.extra a.max_states end) end.model l.model c.0 r.learned.model
+    has : HasModel a.learner a.testing (length (letters_of r.system)) (length r.ended.learned.naming.names) a.extra a.max_states end l.model
+    has = some_is (HasModel a.learner a.testing (length (letters_of r.system)) (length r.ended.learned.naming.names) a.extra a.max_states end) end.model l.model c.0 r.ended.learned.model
 
     over : AreOver l.model.inputs (answers_of end.kept.answers)
     over =
-        let are = words_of a r.system r.prior before.spawner now.spawner r.learned.learned end.kept.answers r.learned.naming.names r.learned.found in
+        let are = words_of a r.system r.prior before.spawner now.spawner r.ended.learned.learned end.kept.answers r.ended.learned.naming.names r.ended.learned.found in
         λ i d lt. subst (λ (n : ℕ). IsWord n (get_or (answers_of end.kept.answers) i d).word) (sym has.certified.inputs) (are i d lt).0
 
     tells : (states : ℕ) (refinements : ℕ) → end.outcome ≡ Accepted states refinements → (a.goal ≡ aim.Acceptor) × TellsAcceptor a before now end states
     tells count refinements is =
-        let told = r.learned.told.told in
+        let told = r.ended.learned.told.told in
         let aimed = accepted_goal a.goal l.model (refinements_of l.learner) count refinements (subst (ModelIsTold a.goal l.model (refinements_of l.learner)) is c.3) in
-        let w : WritesModel a end.kept.answers end.outcome now.files.holds (before.out.taken, now.out.taken) (before.out.faults, now.out.faults) (letters_of r.system) r.learned.naming.names l.model =
-        some_is (WritesModel a end.kept.answers end.outcome now.files.holds (before.out.taken, now.out.taken) (before.out.faults, now.out.faults) (letters_of r.system) r.learned.naming.names) end.model l.model c.0 told.written in
+        let w : WritesModel a end.kept.answers end.outcome now.files.holds (before.out.taken, now.out.taken) (before.out.faults, now.out.faults) (letters_of r.system) r.ended.learned.naming.names l.model =
+        some_is (WritesModel a end.kept.answers end.outcome now.files.holds (before.out.taken, now.out.taken) (before.out.faults, now.out.faults) (letters_of r.system) r.ended.learned.naming.names) end.model l.model c.0 told.written in
         let text = subst (λ (k : Goal). IsModelText k w.model w.text) aimed.0
         (w.text_is (λ e. let wrong : Accepted count refinements ≡ NoMemory = sym is ∙ e in cc) (λ q x e. let wrong : Accepted count refinements ≡ NotAcceptor q x = sym is ∙ e in cc)) in
         let acceptor : NamedAcceptor = text.0 in
         let same : l.model ≡ viewed_machine (length acceptor.inputs) acceptor.automaton = sym w.mealy ∙ text.2.mealy in
-        let model = right a.learner a.testing (length (letters_of r.system)) (length r.learned.naming.names) a.extra a.max_states end l.model has in (
+        let model = right a.learner a.testing (length (letters_of r.system)) (length r.ended.learned.naming.names) a.extra a.max_states end l.model has in (
           aimed.0,
           record {
             acceptor = acceptor;
@@ -134,7 +134,7 @@ module _ (a : LearnValues) (before now : WorldState) (end : End) (run : IsLearnR
         has.certified.inputs
         ∙ (ap (λ (n : List (List ℕ)). length n) (prior_letters a.prior before.files.holds r.task.between r.between r.task.read r.system r.prior r.task.answers ∙ letters.1.inputs)
         ∙ more letters.0) in
-        let model = right a.learner a.testing (length (letters_of r.system)) (length r.learned.naming.names) a.extra a.max_states end l.model has in (
+        let model = right a.learner a.testing (length (letters_of r.system)) (length r.ended.learned.naming.names) a.extra a.max_states end l.model has in (
           aimed.0,
           record {
             model = l.model;
@@ -157,7 +157,7 @@ module _ (a : LearnValues) (before now : WorldState) (end : End) (run : IsLearnR
   }
 
   of_read : Read → AcceptorIsRight a before now end
-  of_read r = by r.learned.learned r.learned.told.told.carries
+  of_read r = by r.ended.learned.learned r.ended.learned.told.told.carries
     where
       by : (learned : Result Found LearnStop) → Carries a.goal learned end → AcceptorIsRight a before now end
       by (Ok l) c = record { told = tells r l c; none = denies r l c }

@@ -254,6 +254,7 @@ module _ (a : CheckValues) (before now : WorldState) (end : End) (ran : IsCheckR
   unread_file role.Second is = absurd is
   unread_file role.Words is = absurd is
   unread_file role.Kept is = absurd is
+  unread_file role.Last is = absurd is
 
   -- an outcome that is neither out of memory nor a fault of a stream is the decision
   decides : (r : PairRead) (x : Outcome) → end.outcome ≡ x → NoMemory ≢ x → SinkFault ≢ x → IsDecision a.suite r.pair a.extra x
@@ -399,6 +400,7 @@ module _ (a : PairValues) (before now : WorldState) (end : End) (ran : compare.I
   uncompared_file role.Prior is = absurd is
   uncompared_file role.Words is = absurd is
   uncompared_file role.Kept is = absurd is
+  uncompared_file role.Last is = absurd is
 
   abbrev IsCompared : Outcome → Type 0
   IsCompared (Compared c) = Unit {0}
@@ -966,14 +968,14 @@ module _ (a : LearnValues) (before now : WorldState) (end : End) (ran : IsLearnR
 
   -- what was learned, by an outcome that is neither out of memory nor that there is no acceptor: a model was told, or the learning
   -- stopped so
-  learns : (r : LearnedSystem) (x : Outcome) → end.outcome ≡ x → NoMemory ≢ x → ((q y : ℕ) → NotAcceptor q y ≢ x) → ((l : Found) × ReportIsTold (told_of a.goal l.model (refinements_of l.learner)) x) ⊎ ((stop : LearnStop) × (r.learned.learned ≡ Err stop) × (learn_outcome stop ≡ x))
-  learns r x is other none = by r.learned.learned refl r.learned.told.told.carries
+  learns : (r : LearnedSystem) (x : Outcome) → end.outcome ≡ x → NoMemory ≢ x → ((q y : ℕ) → NotAcceptor q y ≢ x) → ((l : Found) × ReportIsTold (told_of a.goal l.model (refinements_of l.learner)) x) ⊎ ((stop : LearnStop) × (r.ended.learned.learned ≡ Err stop) × (learn_outcome stop ≡ x))
+  learns r x is other none = by r.ended.learned.learned refl r.ended.learned.told.told.carries
     where
       reported : (l : Found) → ModelIsTold a.goal l.model (refinements_of l.learner) x → ReportIsTold (told_of a.goal l.model (refinements_of l.learner)) x
       reported l (inl told) = told
       reported l (inr denied) = absurd (none denied.1.0 denied.1.1 (sym denied.1.2))
 
-      by : (found : Result Found LearnStop) → r.learned.learned ≡ found → Carries a.goal found end → ((l : Found) × ReportIsTold (told_of a.goal l.model (refinements_of l.learner)) x) ⊎ ((stop : LearnStop) × (r.learned.learned ≡ Err stop) × (learn_outcome stop ≡ x))
+      by : (found : Result Found LearnStop) → r.ended.learned.learned ≡ found → Carries a.goal found end → ((l : Found) × ReportIsTold (told_of a.goal l.model (refinements_of l.learner)) x) ⊎ ((stop : LearnStop) × (r.ended.learned.learned ≡ Err stop) × (learn_outcome stop ≡ x))
       by (Ok l) same carries = inl (l, reported l (subst (ModelIsTold a.goal l.model (refinements_of l.learner)) is carries.3))
       by (Err stop) same carries = inr (stop, same, stands (learn_outcome stop) end.outcome x carries.2 is other)
 
@@ -990,7 +992,7 @@ module _ (a : LearnValues) (before now : WorldState) (end : End) (ran : IsLearnR
   -- the stop of an outcome that comes of a learning alone
   stopped_by : (X : Type 0) (x : Outcome) → end.outcome ≡ x → NoMemory ≢ x → ((q y : ℕ) → NotAcceptor q y ≢ x) → ((r : Role) → FileFault r ≢ x)
       → ((u : Unlearned) → IsUnreadBy a before.files u.between u.read end.kept.answers x → X) → ((u : Unlearned) (w : IsWordlessTask a before.files u.between u.read end.kept.answers end.outcome) → IsWordless a.words (letters_of w.system) w.between u.between x → X)
-      → ((l : Found) → ReportIsTold (told_of a.goal l.model (refinements_of l.learner)) x → X) → ((r : LearnedSystem) (stop : LearnStop) → r.learned.learned ≡ Err stop → learn_outcome stop ≡ x → X) → X
+      → ((l : Found) → ReportIsTold (told_of a.goal l.model (refinements_of l.learner)) x → X) → ((r : LearnedSystem) (stop : LearnStop) → r.ended.learned.learned ≡ Err stop → learn_outcome stop ≡ x → X) → X
   stopped_by X x is other none file unread wordless told stop =
       ⊎_elim
       (λ (u : Unlearned). ⊎_elim (unread u) (⊎_elim (λ (w : Unworded u x). wordless u w.0 w.1) (λ (f : Unwrites u x). absurd (file f.0 f.1))) (unlearned u x is other))
@@ -1003,8 +1005,10 @@ module _ (a : LearnValues) (before now : WorldState) (end : End) (ran : IsLearnR
   -- a file that could not be written
   wrote_file : (r : LearnedSystem) (its : Role) → end.outcome ≡ FileFault its → (its ≡ role.Model) ⊎ ((its ≡ role.Answers) ⊎ (its ≡ role.Kept)) → CountedFault before.files.faults now.files.faults
   wrote_file r its is which =
-      let told = r.learned.told in
-      let since : before.files.faults ≤ told.between.faults = subst (λ (n : ℕ). n ≤ told.between.faults) r.quiet told.saved.counts in
+      let told = r.ended.learned.told in
+      let left : before.files.faults ≤ r.ended.left.faults = subst (λ (n : ℕ). n ≤ r.ended.left.faults) r.quiet r.ended.last.counts in
+      let saved = told.saved.counts in
+      let since : before.files.faults ≤ told.between.faults = omega (arith, left, saved) in
       ⊎_elim
       (λ (e : its ≡ role.Model). counted_since before.files.faults told.between.faults now.files.faults since (told.told.file_fault its is (λ k. let f = e in cc)))
       (⊎_elim
@@ -1012,7 +1016,7 @@ module _ (a : LearnValues) (before now : WorldState) (end : End) (ran : IsLearnR
       (λ (e : its ≡ role.Kept).
       let failed : told.was ≡ saving.Failed = told.told.may.failed (is ∙ ap (λ (s : Role). FileFault s) e) in
       counted_later before.files.faults told.between.faults now.files.faults
-      (subst (λ (n : ℕ). CountedFault n told.between.faults) r.quiet (saved_counts a.kept (letters_of r.system) r.learned.naming.names end.kept.answers r.middle told.between (subst (IsKeptWritten a.kept (letters_of r.system) r.learned.naming.names end.kept.answers r.middle told.between) failed told.saved.written)))
+      (counted_since before.files.faults r.ended.left.faults told.between.faults left (saved_counts a.kept (letters_of r.system) r.ended.learned.naming.names end.kept.answers r.ended.left told.between (subst (IsKeptWritten a.kept (letters_of r.system) r.ended.learned.naming.names end.kept.answers r.ended.left told.between) failed told.saved.written)))
       told.told.counts.0))
       which
 
@@ -1033,18 +1037,18 @@ module _ (a : LearnValues) (before now : WorldState) (end : End) (ran : IsLearnR
   learn_sink is =
       ⊎_elim
       (λ (u : Unlearned). absurd (⊎_elim (λ by. by) (⊎_elim (λ (w : Unworded u SinkFault). w.1) (λ (f : Unwrites u SinkFault). let e : FileFault f.0 ≡ SinkFault = f.1 in cc)) (unlearned u _ is (λ e. cc))))
-      (λ (r : LearnedSystem). ⊎_elim inl (λ counted. inr (counted_later before.err.faults ran.told.faults now.err.faults counted said_since)) (r.learned.told.told.sink_fault is))
+      (λ (r : LearnedSystem). ⊎_elim inl (λ counted. inr (counted_later before.err.faults ran.told.faults now.err.faults counted said_since)) (r.ended.learned.told.told.sink_fault is))
       ran.ends
 
   learn_clash : (clash : Clash) → end.outcome ≡ Nondeterministic clash → IsFirstClash (answers_of end.kept.answers) clash
   learn_clash clash is =
       stopped_by (IsFirstClash (answers_of end.kept.answers) clash) _ is (λ e. cc) (λ q y e. cc) (λ r e. cc) (λ u by. by.3) (λ u w by. absurd by) (λ l by. absurd by)
-      (λ r stop same e. found_clash a r.system r.prior before.spawner now.spawner r.learned.learned end.kept.answers r.learned.naming.names clash r.learned.found (same ∙ ap (λ (s : LearnStop). Err s) (clash_stop stop clash e)))
+      (λ r stop same e. found_clash a r.system r.prior before.spawner now.spawner r.ended.learned.learned end.kept.answers r.ended.learned.naming.names clash r.ended.learned.found (same ∙ ap (λ (s : LearnStop). Err s) (clash_stop stop clash e)))
 
   learn_crowd : (words : List (List ℕ)) → end.outcome ≡ TooManyStates words → IsTooMany a.max_states (answers_of end.kept.answers) words
   learn_crowd words is =
       stopped_by (IsTooMany a.max_states (answers_of end.kept.answers) words) _ is (λ e. cc) (λ q y e. cc) (λ r e. cc) (λ u by. absurd by) (λ u w by. absurd by) (λ l by. absurd by)
-      (λ r stop same e. subst (λ (l : Result Found LearnStop). IfErr l (LearningStopsBy (length (letters_of r.system)) (count_of (declared_of r.system)) a.extra a.max_states (answers_of end.kept.answers))) (same ∙ ap (λ (s : LearnStop). Err s) (crowd_stop stop words e)) r.learned.stops)
+      (λ r stop same e. subst (λ (l : Result Found LearnStop). IfErr l (LearningStopsBy (length (letters_of r.system)) (count_of (declared_of r.system)) a.extra a.max_states (answers_of end.kept.answers))) (same ∙ ap (λ (s : LearnStop). Err s) (crowd_stop stop words e)) r.ended.learned.stops)
 
   learn_suite : (states number : ℕ) → end.outcome ≡ SuiteTooLarge states number → LargeForSystem a before.files now.files end.kept.answers states number
   learn_suite states number is =
@@ -1056,12 +1060,12 @@ module _ (a : LearnValues) (before now : WorldState) (end : End) (ran : IsLearnR
         task = task_of a before now end ran.told r;
         large =
             large_stop (length (letters_of r.system)) (count_of (declared_of r.system)) a.extra a.max_states (answers_of end.kept.answers) stop states number e
-            (subst (λ (l : Result Found LearnStop). IfErr l (LearningStopsBy (length (letters_of r.system)) (count_of (declared_of r.system)) a.extra a.max_states (answers_of end.kept.answers))) same r.learned.stops);
+            (subst (λ (l : Result Found LearnStop). IfErr l (LearningStopsBy (length (letters_of r.system)) (count_of (declared_of r.system)) a.extra a.max_states (answers_of end.kept.answers))) same r.ended.learned.stops);
       })
 
-  stopped_so : (i : ℕ) (s : SulStop) (r : LearnedSystem) (stop : LearnStop) → r.learned.learned ≡ Err stop → learn_outcome stop ≡ system_outcome i s → InstanceStopped (Some (Learn a)) before now i s
+  stopped_so : (i : ℕ) (s : SulStop) (r : LearnedSystem) (stop : LearnStop) → r.ended.learned.learned ≡ Err stop → learn_outcome stop ≡ system_outcome i s → InstanceStopped (Some (Learn a)) before now i s
   stopped_so i s r stop same e =
-      let w = found_stop a r.system r.prior before.spawner now.spawner r.learned.learned end.kept.answers r.learned.naming.names i s r.learned.found (same ∙ ap (λ (t : LearnStop). Err t) (system_stop stop i s e)) in
+      let w = found_stop a r.system r.prior before.spawner now.spawner r.ended.learned.learned end.kept.answers r.ended.learned.naming.names i s r.ended.learned.found (same ∙ ap (λ (t : LearnStop). Err t) (system_stop stop i s e)) in
       record { system = r.system; says = (r.prior, task_of a before now end ran.told r); within = w.1; links = w.0; retired = w.2; why = w.3 }
 
   learn_stops : (i : ℕ) (s : SulStop) → end.outcome ≡ system_outcome i s → InstanceStopped (Some (Learn a)) before now i s

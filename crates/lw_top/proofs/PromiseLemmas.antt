@@ -211,6 +211,9 @@ keeps_system a (system.Children c) prior before now learned kept names outputs t
 below : (x y z : ℕ) → x ≤ y → y ≤ z → x ≤ z
 below x y z one two = omega (arith, one, two)
 
+counted_behind : (w x y : ℕ) → w ≤ x → CountedFault x y → CountedFault w y
+counted_behind w x y le counted = omega (arith, counted, le)
+
 -- what a log puts only adds to the count of faults
 pub log_counts : (name : Option (List ℕ)) (log : LogState) (before now : SinkState) → SaysLog name log before now → before.faults ≤ now.faults
 log_counts None log before now is = let e : now.faults ≡ before.faults = ap (λ (s : SinkState). s.faults) is in omega (arith, e)
@@ -227,7 +230,7 @@ module _ (a : LearnValues) (before now : WorldState) (end : End) where
   pub task_of : (told : SinkState) (r : EndsRead a before.files now.files before.spawner now.spawner before.out now.out before.err told end) → SaysTask a before.files now.files r.system r.prior
   task_of told r =
       let more = words_read a.words (letters_of r.system) before.files.holds r.between r.middle.reads r.asked.named r.asked.read in
-      record { between = r.between; more = more.0; task = r.task; reads = r.learned.told.told.reads ∙ (r.learned.told.saved.reads ∙ more.1) }
+      record { between = r.between; more = more.0; task = r.task; reads = r.ended.learned.told.told.reads ∙ (r.ended.learned.told.saved.reads ∙ (r.ended.last.reads ∙ more.1)) }
 
 module _ (a : LearnValues) (before now : WorldState) (end : End) (run : IsLearnRun a before.files now.files before.spawner now.spawner before.out now.out before.err now.err now.log end) where
   abbrev Unread : Type 0
@@ -266,8 +269,8 @@ module _ (a : LearnValues) (before now : WorldState) (end : End) (run : IsLearnR
 
       of_read : Read → HandsModel a.extra end
       of_read r = record {
-        told = carried a.goal r.learned.learned end r.learned.told.told.carries;
-        right = if_some _ (ModelIsRight a.extra (answers_of end.kept.answers)) end.model (λ h has. right a.learner a.testing (length (letters_of r.system)) (length r.learned.naming.names) a.extra a.max_states end h has) r.learned.model;
+        told = carried a.goal r.ended.learned.learned end r.ended.learned.told.told.carries;
+        right = if_some _ (ModelIsRight a.extra (answers_of end.kept.answers)) end.model (λ h has. right a.learner a.testing (length (letters_of r.system)) (length r.ended.learned.naming.names) a.extra a.max_states end h has) r.ended.learned.model;
       }
 
   keeps : KeepsLearned a before now end ⊎ AsksNothing a before now end
@@ -279,10 +282,10 @@ module _ (a : LearnValues) (before now : WorldState) (end : End) (run : IsLearnR
         system = r.system;
         prior = r.prior;
         task = task_of a before now end run.told r;
-        keeps = keeps_system a r.system r.prior before.spawner now.spawner r.learned.learned end.kept.answers r.learned.naming.names end.outputs (end_named (declared_of r.system) end.kept.answers r.learned.naming end.outputs r.learned.told.told.outputs) r.learned.found;
-        letters = if_some _ (λ h. h.inputs ≡ length (letters_of r.system)) end.model (λ h has. has.certified.inputs) r.learned.model;
+        keeps = keeps_system a r.system r.prior before.spawner now.spawner r.ended.learned.learned end.kept.answers r.ended.learned.naming.names end.outputs (end_named (declared_of r.system) end.kept.answers r.ended.learned.naming end.outputs r.ended.learned.told.told.outputs) r.ended.learned.found;
+        letters = if_some _ (λ h. h.inputs ≡ length (letters_of r.system)) end.model (λ h has. has.certified.inputs) r.ended.learned.model;
         words = r.words;
-        asked = subst (λ (reads : List File). SaysWords a (letters_of r.system) before.files.holds r.between reads r.words) (sym (r.learned.told.told.reads ∙ r.learned.told.saved.reads)) r.asked;
+        asked = subst (λ (reads : List File). SaysWords a (letters_of r.system) before.files.holds r.between reads r.words) (sym (r.ended.learned.told.told.reads ∙ (r.ended.learned.told.saved.reads ∙ r.ended.last.reads))) r.asked;
         plainly = r.plainly;
       }
 
@@ -294,13 +297,13 @@ module _ (a : LearnValues) (before now : WorldState) (end : End) (run : IsLearnR
         system = r.system;
         prior = r.prior;
         task = task_of a before now end run.told r;
-        reached = λ m none sound within gives. r.learned.reached m (none_failed none) sound within gives;
-        counted = λ m none uncounted within gives. r.learned.counted m (none_failed none) uncounted within gives;
+        reached = λ m none sound within gives. r.ended.learned.reached m (none_failed none) sound within gives;
+        counted = λ m none uncounted within gives. r.ended.learned.counted m (none_failed none) uncounted within gives;
       }
         where
-          none_failed : NothingFailed (before.files.faults, now.files.faults) (before.out.faults, now.out.faults) (before.err.faults, now.err.faults) → NothingFailed (r.middle.faults, now.files.faults) (before.out.faults, now.out.faults) (before.err.faults, run.told.faults)
+          none_failed : NothingFailed (before.files.faults, now.files.faults) (before.out.faults, now.out.faults) (before.err.faults, now.err.faults) → NothingFailed (r.ended.left.faults, now.files.faults) (before.out.faults, now.out.faults) (before.err.faults, run.told.faults)
           none_failed none = record {
-            of_files = subst (λ (n : ℕ). ¬ CountedFault n now.files.faults) (sym r.quiet) none.of_files;
+            of_files = λ counted. none.of_files (counted_behind before.files.faults r.ended.left.faults now.files.faults (subst (λ (n : ℕ). n ≤ r.ended.left.faults) r.quiet r.ended.last.counts) counted);
             of_out = none.of_out;
             of_err = λ counted. none.of_err (below _ run.told.faults now.err.faults counted rises);
           }

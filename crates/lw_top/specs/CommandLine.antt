@@ -1,8 +1,8 @@
 -- The arguments of the command line: as clap sees those of a command, and what they say, over its meaning of a simple command.
 use Rattle.std.specs.Prelude.{ℕ, List, [], ◌∷◌, map, true, Some, Bool, false, ◌&&◌, ◌||◌, codes, String, string_bytes, Option, None, if◌then◌else◌}
 use Rattle.clap.specs.Simple.{new_shape}
-use Rattle.clap.specs.Words.{App, Rule, new_app, new_rule, Row, matches_of, one_of}
-use Rattle.clap.specs.declared.builder.action.ArgAction.TheVariants.{Append, Set}
+use Rattle.clap.specs.Words.{App, Rule, new_app, new_rule, Row, first_of, matches_of, one_of}
+use Rattle.clap.specs.declared.builder.action.ArgAction.TheVariants.{Append, Set, SetTrue}
 use Rattle.clap.specs.declared.builder.value_parser.ValueParser.TheVariants.{Unsigned}
 use Rattle.lw_top.specs.declared.options.Argument.{Argument}
 use Rattle.lw_top.specs.declared.options.Syntax.{Syntax}
@@ -46,6 +46,10 @@ number_option name range default = record (free_number name range) { defaults = 
 abbrev pub required_number : List ℕ → Range → Rule
 required_number name range = record (free_number name range) { required = true }
 
+-- an option that takes no value
+abbrev pub flag_option : List ℕ → Rule
+flag_option name = record (new_rule name) { long = Some name; action = Some SetTrue }
+
 -- an argument without a name of an option, which has to be there
 abbrev pub required_argument : List ℕ → Rule
 required_argument name = record (new_rule name) { required = true; action = Some Set }
@@ -64,6 +68,7 @@ rule_for (takes.OneOf name choices default) = default_option name default
 rule_for (takes.Number name range) = free_number name range
 rule_for (takes.NumberOr name range default) = number_option name range default
 rule_for (takes.RequiredNumber name range) = required_number name range
+rule_for (takes.Flag name) = flag_option name
 rule_for (takes.Required name) = required_argument name
 rule_for (takes.Optional name) = optional_argument name
 rule_for (takes.Many name) = many_arguments name
@@ -117,6 +122,15 @@ number_in_range range (Some text) = if is_unsigned_in range.low range.high text 
 -- the number of an option, where it is in the range
 abbrev pub number_given : List ℕ → Range → List Row → Option ℕ
 number_given name range rows = number_in_range range (one_of name rows)
+
+-- the value of a flag, as clap keeps it: a text, which is `true` where the flag is given
+abbrev pub is_true : Option (List ℕ) → Bool
+is_true None = false
+is_true (Some text) = bytes_eq text (codes "true")
+
+-- the flag is given
+abbrev pub flag_given : List ℕ → List Row → Bool
+flag_given name rows = is_true (first_of name rows)
 
 -- the kind of learner that a text names
 abbrev pub kind_named : List ℕ → Option Kind

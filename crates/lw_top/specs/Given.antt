@@ -1,7 +1,8 @@
 -- What words give to a command: options with their values, and texts. A word is read as clap reads it.
-use Rattle.std.specs.Prelude.{ℕ, Bool, true, false, ◌||◌, not, List, [], ◌∷◌, ◌++◌, codes, map, Option, Some, None, is_some, option_map, if◌then◌else◌}
+use Rattle.std.specs.Prelude.{ℕ, Bool, false, ◌||◌, not, List, [], ◌∷◌, ◌++◌, codes, map, Option, Some, None, is_some, option_map, if◌then◌else◌}
 use Rattle.std.specs.Str.{bytes_eq}
 use Rattle.clap.specs.Lexer.{long_of, short_of}
+use Rattle.lw_top.specs.Syntaxes.{EntryValues, has_flag}
 use Rattle.lw_top.specs.declared.given.Given.{Given}
 use Rattle.lw_top.specs.declared.given.Given.TheVariants as given
 
@@ -28,29 +29,33 @@ abbrev pub value_in : Option (List ℕ) → Option (List ℕ)
 value_in None = None
 value_in (Some word) = if is_dashed word then None else Some word
 
--- an option whose value isn't in its word
-abbrev pub is_bare : Option (List ℕ × Option (List ℕ)) → Bool
-is_bare (Some (name, None)) = true
-is_bare (Some (name, Some value)) = false
-is_bare None = false
+-- the value of an option that isn't in its word: the next word, where it may be one, and none of a flag
+abbrev pub value_behind : List EntryValues → (name : List ℕ) → (next : Option (List ℕ)) → Option (List ℕ)
+value_behind entries name next = if has_flag entries name then None else value_in next
+
+-- an option whose value isn't in its word, and no flag of the command
+abbrev pub is_bare : List EntryValues → Option (List ℕ × Option (List ℕ)) → Bool
+is_bare entries (Some (name, None)) = not (has_flag entries name)
+is_bare entries (Some (name, Some value)) = false
+is_bare entries None = false
 
 -- the word before has the word for its value
-abbrev pub takes_next : Option (List ℕ) → Bool
-takes_next None = false
-takes_next (Some word) = is_bare (long_of word)
+abbrev pub takes_next : List EntryValues → Option (List ℕ) → Bool
+takes_next entries None = false
+takes_next entries (Some word) = is_bare entries (long_of word)
 
 -- what a word that is no long option gives
-abbrev pub given_short : (before : Option (List ℕ)) → (word : List ℕ) → Option GivenValues
-given_short before word = if is_some (short_of word) then Some (Flag word) else if takes_next before then None else Some (Text word)
+abbrev pub given_short : List EntryValues → (before : Option (List ℕ)) → (word : List ℕ) → Option GivenValues
+given_short entries before word = if is_some (short_of word) then Some (Flag word) else if takes_next entries before then None else Some (Text word)
 
-abbrev pub given_long : Option (List ℕ × Option (List ℕ)) → (before : Option (List ℕ)) → (word : List ℕ) → (next : Option (List ℕ)) → Option GivenValues
-given_long (Some (name, Some value)) before word next = Some (Named name (Some value))
-given_long (Some (name, None)) before word next = Some (Named name (value_in next))
-given_long None before word next = given_short before word
+abbrev pub given_long : List EntryValues → Option (List ℕ × Option (List ℕ)) → (before : Option (List ℕ)) → (word : List ℕ) → (next : Option (List ℕ)) → Option GivenValues
+given_long entries (Some (name, Some value)) before word next = Some (Named name (Some value))
+given_long entries (Some (name, None)) before word next = Some (Named name (value_behind entries name next))
+given_long entries None before word next = given_short entries before word
 
--- what a word gives, by the words beside it
-abbrev pub given_by : (before : Option (List ℕ)) → (word : List ℕ) → (next : Option (List ℕ)) → Option GivenValues
-given_by before word next = given_long (long_of word) before word next
+-- what a word gives to a command with these arguments, by the words beside it
+abbrev pub given_by : List EntryValues → (before : Option (List ℕ)) → (word : List ℕ) → (next : Option (List ℕ)) → Option GivenValues
+given_by entries before word next = given_long entries (long_of word) before word next
 
 abbrev pub first_word : List (List ℕ) → Option (List ℕ)
 first_word [] = None
@@ -61,9 +66,9 @@ with_given None rest = rest
 with_given (Some one) rest = one ∷ rest
 
 -- what words give behind another one
-abbrev pub givens_behind : (before : Option (List ℕ)) → List (List ℕ) → List GivenValues
-givens_behind before [] = []
-givens_behind before (w ∷ ws) = if is_end w then map Text ws else with_given (given_by before w (first_word ws)) (givens_behind (Some w) ws)
+abbrev pub givens_behind : List EntryValues → (before : Option (List ℕ)) → List (List ℕ) → List GivenValues
+givens_behind entries before [] = []
+givens_behind entries before (w ∷ ws) = if is_end w then map Text ws else with_given (given_by entries before w (first_word ws)) (givens_behind entries (Some w) ws)
 
-abbrev pub givens : List (List ℕ) → List GivenValues
-givens words = givens_behind None words
+abbrev pub givens : List EntryValues → List (List ℕ) → List GivenValues
+givens entries words = givens_behind entries None words

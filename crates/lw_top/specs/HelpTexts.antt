@@ -3,7 +3,7 @@ use Rattle.std.specs.Prelude.{ℕ, Bool, true, false, List, [], ◌++◌, codes,
 use Rattle.std.specs.Fmt.{decimal}
 use Rattle.std.specs.List.{flat_map, join_by, list_any}
 use Rattle.std.specs.Str.{bytes_eq}
-use Rattle.lw_top.specs.Syntaxes.{ArgumentValues, EntryValues, SyntaxValues, Text, OneOf, Number, NumberOr, RequiredNumber, Required, Optional, Many, option_name}
+use Rattle.lw_top.specs.Syntaxes.{ArgumentValues, EntryValues, SyntaxValues, Text, OneOf, Number, NumberOr, RequiredNumber, Flag, Required, Optional, Many, is_flag, option_name}
 use Rattle.lw_top.specs.declared.ranges.Range.{Range}
 
 -- names, joined by a comma
@@ -21,17 +21,19 @@ takes_text (OneOf name choices default) = codes "one of " ++ (listed choices ++ 
 takes_text (Number name range) = numbers range ++ codes ", or left out"
 takes_text (NumberOr name range default) = numbers range ++ (codes ", by default " ++ default)
 takes_text (RequiredNumber name range) = numbers range ++ codes ", required"
+takes_text (Flag name) = codes "a flag"
 takes_text (Required name) = codes "a text"
 takes_text (Optional name) = codes "a text"
 takes_text (Many name) = codes "texts"
 
--- an argument as the usage has it
-abbrev pub label_by : Option (List ℕ) → List ℕ → List ℕ
-label_by None value = value
-label_by (Some name) value = codes "--" ++ (name ++ (codes " " ++ value))
+-- an argument as the usage has it: a flag by its name alone
+abbrev pub label_by : (option : Option (List ℕ)) → (is_flag : Bool) → (value : List ℕ) → List ℕ
+label_by None is_flag value = value
+label_by (Some name) true value = codes "--" ++ name
+label_by (Some name) false value = codes "--" ++ (name ++ (codes " " ++ value))
 
 abbrev pub label : EntryValues → List ℕ
-label e = label_by (option_name e.argument) e.value
+label e = label_by (option_name e.argument) (is_flag e.argument) e.value
 
 -- an option that may be left out
 abbrev pub is_free_option : ArgumentValues → Bool
@@ -39,6 +41,7 @@ is_free_option (Text name) = true
 is_free_option (OneOf name choices default) = true
 is_free_option (Number name range) = true
 is_free_option (NumberOr name range default) = true
+is_free_option (Flag name) = true
 is_free_option _ = false
 
 -- the option may be in place of the first text, which is shown with it

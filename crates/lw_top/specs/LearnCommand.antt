@@ -1,5 +1,5 @@
 -- The command `learn` as clap sees it, and what arguments that it takes say.
-use Rattle.std.specs.Prelude.{ℕ, List, [], ◌∷◌, codes, Option, Some, None, option_and_then, option_map, string_bytes, false}
+use Rattle.std.specs.Prelude.{ℕ, Bool, List, [], ◌∷◌, codes, Option, Some, None, option_and_then, option_map, string_bytes, false}
 use Rattle.clap.specs.Words.{App, Row, first_of}
 use Rattle.lw_rounds.specs.declared.learner.Kind.{Kind}
 use Rattle.lw_rounds.specs.declared.settings.Settings.{Settings}
@@ -12,12 +12,12 @@ use Rattle.lw_system.specs.declared.goal.Goal.{Goal}
 use Rattle.lw_system.specs.declared.goal.Goal.TheVariants.{Machine}
 use Rattle.lw_system.specs.declared.source.Source.{Source}
 use Rattle.lw_system.specs.declared.source.Source.TheVariants.{Setup, Table}
-use Rattle.lw_top.specs.CommandLine.{app_by, kind_named, method_named, number_given, values_taken}
-use Rattle.lw_top.specs.Syntaxes.{SyntaxValues, Text, entry, extra_entry, kept_entry, learner_entry, length_entry, log_entry, model_entry, random_entry, seed_entry, setup_entry, states_entry, suite_entry, table_entry, walks_entry, words_entry, workers_entry}
+use Rattle.lw_top.specs.CommandLine.{app_by, flag_given, kind_named, method_named, number_given, values_taken}
+use Rattle.lw_top.specs.Syntaxes.{SyntaxValues, Text, entry, extra_entry, kept_entry, last_entry, learner_entry, length_entry, log_entry, model_entry, random_entry, seed_entry, setup_entry, states_entry, suite_entry, table_entry, verbose_entry, walks_entry, words_entry, workers_entry}
 use Rattle.lw_top.specs.declared.ranges.TheConstants.{EXTRA, LENGTH, RANDOM, SEED, STATES, WORKERS}
 
 -- learn (SETUP | --table FILE) [--workers N] [--extra K] [--learner table|ttt] [--max-states N] [--model FILE] [--answers FILE] [--prior FILE]
--- [--kept FILE] [--words FILE] [[--random R] [--walks N] --length L --seed S] [--log FILE] [--suite w|wp|h]
+-- [--kept FILE] [--words FILE] [[--random R] [--walks N] --length L --seed S] [--log FILE] [--suite w|wp|h] [--last FILE] [--verbose]
 abbrev pub learn_syntax : SyntaxValues
 learn_syntax = record {
   command = codes "learn";
@@ -40,6 +40,8 @@ learn_syntax = record {
       ∷ seed_entry
       ∷ log_entry
       ∷ suite_entry
+      ∷ last_entry
+      ∷ verbose_entry
       ∷ [];
   texts = codes "SETUP" ∷ [];
   takes_more = false;
@@ -121,6 +123,7 @@ pub record LearnFileNames : Type 0 where
   pub answers : Option (List ℕ)
   pub prior : Option (List ℕ)
   pub kept : Option (List ℕ)
+  pub last : Option (List ℕ)
   pub words : Option (List ℕ)
   pub log : Option (List ℕ)
 
@@ -130,6 +133,7 @@ file_names f = record {
   answers = option_map (λ s. string_bytes s) f.answers;
   prior = option_map (λ s. string_bytes s) f.prior;
   kept = option_map (λ s. string_bytes s) f.kept;
+  last = option_map (λ s. string_bytes s) f.last;
   words = option_map (λ s. string_bytes s) f.words;
   log = option_map (λ s. string_bytes s) f.log;
 }
@@ -140,16 +144,17 @@ files_in rows = record {
   answers = first_of (codes "answers") rows;
   prior = first_of (codes "prior") rows;
   kept = first_of (codes "kept") rows;
+  last = first_of (codes "last") rows;
   words = first_of (codes "words") rows;
   log = first_of (codes "log") rows;
 }
 
 -- the values of what is learned, where the system's file is named and all else is there
-abbrev pub learn_values_from : Goal → Option (Source × List ℕ) → Option SettingValues → Option DrawValues → LearnFileNames → Option LearnValues
-learn_values_from goal None settings drawn files = None
-learn_values_from goal (Some system) None drawn files = None
-learn_values_from goal (Some system) (Some settings) None files = None
-learn_values_from goal (Some system) (Some settings) (Some drawn) files =
+abbrev pub learn_values_from : Goal → Option (Source × List ℕ) → Option SettingValues → Option DrawValues → LearnFileNames → (verbose : Bool) → Option LearnValues
+learn_values_from goal None settings drawn files verbose = None
+learn_values_from goal (Some system) None drawn files verbose = None
+learn_values_from goal (Some system) (Some settings) None files verbose = None
+learn_values_from goal (Some system) (Some settings) (Some drawn) files verbose =
     Some
     (record {
       goal = goal;
@@ -164,13 +169,19 @@ learn_values_from goal (Some system) (Some settings) (Some drawn) files =
       answers = files.answers;
       prior = files.prior;
       kept = files.kept;
+      last = files.last;
       words = files.words;
       drawn = drawn.words;
       log = files.log;
+      verbose = verbose;
     })
 
+-- progress is told
+abbrev pub verbose_in : List Row → Bool
+verbose_in rows = flag_given (codes "verbose") rows
+
 abbrev pub learn_found : List Row → Option LearnValues
-learn_found rows = learn_values_from Machine (source_in rows) (settings_in rows) (drawn_in rows) (files_in rows)
+learn_found rows = learn_values_from Machine (source_in rows) (settings_in rows) (drawn_in rows) (files_in rows) (verbose_in rows)
 
 -- what the arguments say to `learn`, where they are taken
 abbrev pub learn_values : List (List ℕ) → Option LearnValues

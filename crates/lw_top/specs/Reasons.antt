@@ -3,9 +3,9 @@ use Rattle.std.specs.Prelude.{ℕ, ◌+◌, ◌==◌, Bool, true, false, ◌&&�
 use Rattle.std.specs.List.{flat_map, list_all, list_any}
 use Rattle.std.specs.Str.{bytes_eq}
 use Rattle.clap.specs.ValueTests.{is_unsigned_in}
-use Rattle.lw_top.specs.Given.{GivenValues, Named, Flag, Text as AText, givens}
+use Rattle.lw_top.specs.Given.{GivenValues, Named, Flag as AFlag, Text as AText, givens}
 use Rattle.lw_top.specs.HelpTexts.{listed, numbers}
-use Rattle.lw_top.specs.Syntaxes.{ArgumentValues, EntryValues, SyntaxValues, Text, OneOf, Number, NumberOr, RequiredNumber, Required, Optional, Many, option_name}
+use Rattle.lw_top.specs.Syntaxes.{ArgumentValues, EntryValues, SyntaxValues, Text, OneOf, Number, NumberOr, RequiredNumber, Required, Optional, Many, has_flag, option_name}
 use Rattle.lw_top.specs.declared.ranges.Range.{Range}
 
 -- the first of two, where there is one
@@ -29,7 +29,7 @@ shown before word = if nat_le (length word) 64 && list_all is_printed word then 
 
 abbrev pub is_named : List ℕ → GivenValues → Bool
 is_named name (Named given value) = bytes_eq given name
-is_named name (Flag word) = false
+is_named name (AFlag word) = false
 is_named name (AText text) = false
 
 abbrev pub is_given : List GivenValues → List ℕ → Bool
@@ -38,7 +38,7 @@ is_given given name = list_any (is_named name) given
 -- the value of an option in one thing that is given
 abbrev pub value_of : List ℕ → GivenValues → Option (List ℕ)
 value_of name (Named given value) = if bytes_eq given name then value else None
-value_of name (Flag word) = None
+value_of name (AFlag word) = None
 value_of name (AText text) = None
 
 abbrev pub is_name : Option (List ℕ) → List ℕ → Bool
@@ -68,10 +68,15 @@ abbrev pub lacks_value : List ℕ → Option (List ℕ) → Option (List ℕ)
 lacks_value name None = Some (codes "--" ++ (name ++ codes " needs a value"))
 lacks_value name (Some value) = None
 
--- an option that the command doesn't have, or that has no value
+abbrev pub has_value : List ℕ → Option (List ℕ) → Option (List ℕ)
+has_value name None = None
+has_value name (Some value) = Some (codes "--" ++ (name ++ codes " takes no value"))
+
+-- an option that the command doesn't have, one without a value, or a flag with one
 abbrev pub given_reason : SyntaxValues → GivenValues → Option (List ℕ)
-given_reason s (Named name value) = if list_any (is_option name) s.entries then lacks_value name value else Some (unknown_option s name)
-given_reason s (Flag word) = Some (unknown_flag s word)
+given_reason s (Named name value) =
+    if has_flag s.entries name then has_value name value else if list_any (is_option name) s.entries then lacks_value name value else Some (unknown_option s name)
+given_reason s (AFlag word) = Some (unknown_flag s word)
 given_reason s (AText text) = None
 
 abbrev pub range_reason : List ℕ → Range → List ℕ → Option (List ℕ)
@@ -103,7 +108,7 @@ entry_reason given e = option_reason e.argument (option_name e.argument) given
 
 abbrev pub text_given : GivenValues → List (List ℕ)
 text_given (Named name value) = []
-text_given (Flag word) = []
+text_given (AFlag word) = []
 text_given (AText text) = text ∷ []
 
 -- the texts that are given

@@ -1,5 +1,7 @@
 -- The arguments of a command as data. What clap is told of them, what help prints, and what a refusal tells go by these.
-use Rattle.std.specs.Prelude.{ℕ, Bool, List, [], ◌∷◌, codes, Option, Some, None, map}
+use Rattle.std.specs.Prelude.{ℕ, Bool, true, false, List, [], ◌∷◌, codes, Option, Some, None, map}
+use Rattle.std.specs.List.{list_any}
+use Rattle.std.specs.Str.{bytes_eq}
 use Rattle.lw_top.specs.declared.options.Argument.{Argument}
 use Rattle.lw_top.specs.declared.options.Argument.TheVariants as takes
 use Rattle.lw_top.specs.declared.options.Entry.{Entry}
@@ -7,14 +9,15 @@ use Rattle.lw_top.specs.declared.options.Syntax.{Syntax}
 use Rattle.lw_top.specs.declared.ranges.Range.{Range}
 use Rattle.lw_top.specs.declared.ranges.TheConstants.{EXTRA, LENGTH, RANDOM, SEED, STATES, WORKERS}
 
--- an option that takes a text, one of some names, or a whole number in a range, with a default or none; or a text without a name
--- of an option, which has to be there or not, or may be given several times
+-- an option that takes a text, one of some names, or a whole number in a range, with a default or none; an option that takes no
+-- value; or a text without a name of an option, which has to be there or not, or may be given several times
 pub data ArgumentValues : Type 0 where
   Text : (name : List ℕ) → ArgumentValues
   OneOf : (name : List ℕ) → (choices : List (List ℕ)) → (default : List ℕ) → ArgumentValues
   Number : (name : List ℕ) → Range → ArgumentValues
   NumberOr : (name : List ℕ) → Range → (default : List ℕ) → ArgumentValues
   RequiredNumber : (name : List ℕ) → Range → ArgumentValues
+  Flag : (name : List ℕ) → ArgumentValues
   Required : (name : List ℕ) → ArgumentValues
   Optional : (name : List ℕ) → ArgumentValues
   Many : (name : List ℕ) → ArgumentValues
@@ -49,6 +52,7 @@ argument_values (takes.OneOf name choices default) = OneOf name.now (map (λ c. 
 argument_values (takes.Number name range) = Number name.now range
 argument_values (takes.NumberOr name range default) = NumberOr name.now range default.now
 argument_values (takes.RequiredNumber name range) = RequiredNumber name.now range
+argument_values (takes.Flag name) = Flag name.now
 argument_values (takes.Required name) = Required name.now
 argument_values (takes.Optional name) = Optional name.now
 argument_values (takes.Many name) = Many name.now
@@ -76,9 +80,23 @@ option_name (OneOf name choices default) = Some name
 option_name (Number name range) = Some name
 option_name (NumberOr name range default) = Some name
 option_name (RequiredNumber name range) = Some name
+option_name (Flag name) = Some name
 option_name (Required name) = None
 option_name (Optional name) = None
 option_name (Many name) = None
+
+-- an option that takes no value
+abbrev pub is_flag : ArgumentValues → Bool
+is_flag (Flag name) = true
+is_flag _ = false
+
+-- the option of this name that takes no value
+abbrev pub is_flag_of : List ℕ → ArgumentValues → Bool
+is_flag_of name (Flag own) = bytes_eq own name
+is_flag_of name _ = false
+
+abbrev pub has_flag : List EntryValues → List ℕ → Bool
+has_flag entries name = list_any (λ e. is_flag_of name e.argument) entries
 
 -- the kinds of learner, and how suites are made
 abbrev pub kinds : List (List ℕ)
@@ -133,3 +151,9 @@ log_entry = entry (Text (codes "log")) (codes "FILE") (codes "where each step is
 
 abbrev pub suite_entry : EntryValues
 suite_entry = entry (OneOf (codes "suite") methods (codes "w")) (codes "METHOD") (codes "how suites are made: by the W-, Wp- or H-method")
+
+abbrev pub last_entry : EntryValues
+last_entry = entry (Text (codes "last")) (codes "FILE") (codes "where the machine of the last closed learner is written at an end without a model")
+
+abbrev pub verbose_entry : EntryValues
+verbose_entry = entry (Flag (codes "verbose")) [] (codes "tells reasons and progress on standard error")

@@ -6,7 +6,7 @@ use Rattle.lw_top.specs.Reasons.{reason_by, unknown_command}
 use Rattle.lw_top.specs.Syntaxes.{SyntaxValues}
 
 abbrev pub reason_for : Option SyntaxValues → (name : List ℕ) → (words : List (List ℕ)) → List ℕ
-reason_for (Some s) name words = reason_by s (givens words)
+reason_for (Some s) name words = reason_by s (givens s.entries words)
 reason_for None name words = unknown_command name
 
 -- the first of the arguments names the command

@@ -92,6 +92,18 @@ pub(crate) const LOG: Entry = Entry {
     about: "where each step is logged",
 };
 
+pub(crate) const LAST: Entry = Entry {
+    argument: Argument::Text("last"),
+    value: "FILE",
+    about: "where the machine of the last closed learner is written at an end without a model",
+};
+
+pub(crate) const VERBOSE: Entry = Entry {
+    argument: Argument::Flag("verbose"),
+    value: "",
+    about: "tells reasons and progress on standard error",
+};
+
 pub(crate) const SUITE: Entry = Entry {
     argument: Argument::OneOf("suite", METHODS, "w"),
     value: "METHOD",

@@ -2,8 +2,10 @@
 ghost use Rattle.std.specs.Prelude.{◌≡◌, ◌++◌, IfOk, OnOk, map, option_map, string_bytes};
 ghost use Rattle.clap.specs.Lexer.{long_of, name_and_value, short_of, strip_byte};
 ghost use Rattle.lw_top.specs.CommandLine.{texts};
-ghost use Rattle.lw_top.specs.Given.{Text, first_word, given_by, given_short, given_values, givens, is_dashed, is_end, takes_next, value_in};
+ghost use Rattle.lw_top.specs.Given.{Text, first_word, given_by, given_short, given_values, givens, is_dashed, is_end, takes_next, value_behind, value_in};
+ghost use Rattle.lw_top.specs.Syntaxes.{entry_values};
 
+use crate::options::{Entry, has_flag};
 use std::alloc::{AllocError, Global};
 
 /// One thing that words give.
@@ -82,44 +84,61 @@ fn value_in<'a>(next: Option<&'a str>) -> Option<&'a str>
     Some(word)
 }
 
+/// The value of an option whose word has none: the next word, where it may be one. A flag has none.
+fn value_behind<'a>(entries: &[Entry], name: &str, next: Option<&'a str>) -> Option<&'a str>
+    ensures { option_map (λ s. s.now) result ≡ value_behind (map entry_values entries.now)
+        name.now (option_map (λ s. s.now) next.entry) }
+{
+    if has_flag(entries, name) {
+        return None;
+    }
+    value_in(next)
+}
+
 /// Whether the word before has the next one for its value.
-fn takes_next(before: Option<&str>) -> bool
-    ensures { result ≡ takes_next (option_map (λ s. s.now) before.entry) }
+fn takes_next(entries: &[Entry], before: Option<&str>) -> bool
+    ensures { result ≡ takes_next (map entry_values entries.now)
+        (option_map (λ s. s.now) before.entry) }
 {
     let Some(word) = before else {
         return false;
     };
     match to_long(word) {
-        Some((_, None)) => true,
+        Some((name, None)) => !has_flag(entries, name),
         _ => false,
     }
 }
 
 /// What a word that is no long option gives.
-fn given_short<'a>(before: Option<&str>, word: &'a str) -> Option<Given<'a>>
-    ensures { option_map given_values result ≡
-        given_short (option_map (λ s. s.now) before.entry) word.now }
+fn given_short<'a>(entries: &[Entry], before: Option<&str>, word: &'a str) -> Option<Given<'a>>
+    ensures { option_map given_values result ≡ given_short (map entry_values entries.now)
+        (option_map (λ s. s.now) before.entry) word.now }
 {
     if to_short(word).is_some() {
         return Some(Given::Flag(word));
     }
-    if takes_next(before) {
+    if takes_next(entries, before) {
         return None;
     }
     Some(Given::Text(word))
 }
 
-/// What a word gives, by the words beside it.
-fn given_by<'a>(before: Option<&str>, word: &'a str, next: Option<&'a str>) -> Option<Given<'a>>
-    ensures { option_map given_values result ≡ given_by (option_map (λ s. s.now) before.entry)
-        word.now (option_map (λ s. s.now) next.entry) }
+/// What a word gives to a command with these arguments, by the words beside it.
+fn given_by<'a>(
+    entries: &[Entry],
+    before: Option<&str>,
+    word: &'a str,
+    next: Option<&'a str>,
+) -> Option<Given<'a>>
+    ensures { option_map given_values result ≡ given_by (map entry_values entries.now)
+        (option_map (λ s. s.now) before.entry) word.now (option_map (λ s. s.now) next.entry) }
 {
     match to_long(word) {
         Some((name, value)) => match value {
             Some(value) => Some(Given::Named(name, Some(value))),
-            None => Some(Given::Named(name, value_in(next))),
+            None => Some(Given::Named(name, value_behind(entries, name, next))),
         },
-        None => given_short(before, word),
+        None => given_short(entries, before, word),
     }
 }
 
@@ -144,9 +163,14 @@ fn put_texts<'a>(list: &mut Vec<Given<'a>>, words: &'a [String]) -> Result<(), A
     Ok(())
 }
 
-/// What words give.
-pub(crate) fn givens<'a>(alloc: Global, words: &'a [String]) -> Result<Vec<Given<'a>>, AllocError>
-    ensures { IfOk result (λ list. map given_values list.items ≡ givens (texts words.now)) }
+/// What words give to a command with these arguments.
+pub(crate) fn givens<'a>(
+    alloc: Global,
+    entries: &[Entry],
+    words: &'a [String],
+) -> Result<Vec<Given<'a>>, AllocError>
+    ensures { IfOk result (λ list. map given_values list.items ≡
+        givens (map entry_values entries.now) (texts words.now)) }
 {
     let mut list = Vec::new(alloc);
     let mut before = None;
@@ -157,7 +181,7 @@ pub(crate) fn givens<'a>(alloc: Global, words: &'a [String]) -> Result<Vec<Given
             put_texts(&mut list, behind)?;
             return Ok(list);
         }
-        if let Some(given) = given_by(before, word, first_word(behind)) {
+        if let Some(given) = given_by(entries, before, word, first_word(behind)) {
             list.push(given)?;
         }
         before = Some(word);

@@ -1,8 +1,8 @@
 //! The arguments of a command as data, and as clap takes them.
-ghost use Rattle.std.specs.Prelude.{◌≡◌, IfOk, false, option_map};
+ghost use Rattle.std.specs.Prelude.{◌≡◌, IfOk, false, map, option_map};
 ghost use Rattle.clap.specs.Words.{app_of, rule_of};
 ghost use Rattle.lw_top.specs.CommandLine.{app_for, rule_of_argument};
-ghost use Rattle.lw_top.specs.Syntaxes.{argument_values, option_name};
+ghost use Rattle.lw_top.specs.Syntaxes.{argument_values, entry_values, has_flag, is_flag, is_flag_of, option_name};
 
 use crate::ranges::Range;
 use clap::builder::ValueParser;
@@ -22,6 +22,8 @@ pub(crate) enum Argument {
     NumberOr(&'static str, Range, &'static str),
     /// An option that takes a number, which has to be there.
     RequiredNumber(&'static str, Range),
+    /// An option that takes no value.
+    Flag(&'static str),
     /// A text without a name of an option, which has to be there.
     Required(&'static str),
     /// A text without a name of an option, which may be left out.
@@ -50,8 +52,26 @@ impl Argument {
             | Argument::OneOf(name, _, _)
             | Argument::Number(name, _)
             | Argument::NumberOr(name, _, _)
-            | Argument::RequiredNumber(name, _) => Some(name),
+            | Argument::RequiredNumber(name, _)
+            | Argument::Flag(name) => Some(name),
             _ => None,
+        }
+    }
+
+    /// Whether it is an option that takes no value.
+    pub(crate) fn is_flag(&self) -> bool
+        ensures { result ≡ is_flag (argument_values self.now) }
+    {
+        matches!(self, Argument::Flag(_))
+    }
+
+    /// Whether it is the option of this name, which takes no value.
+    fn is_flag_of(&self, name: &str) -> bool
+        ensures { result ≡ is_flag_of name.now (argument_values self.now) }
+    {
+        match *self {
+            Argument::Flag(own) => own == name,
+            _ => false,
         }
     }
 }
@@ -60,10 +80,22 @@ impl Argument {
 #[derive(Clone, Copy)]
 pub(crate) struct Entry {
     pub(crate) argument: Argument,
-    /// What is in its place in the usage.
+    /// What is in its place in the usage, or behind its name; nothing of a flag.
     pub(crate) value: &'static str,
     /// What it is for.
     pub(crate) about: &'static str,
+}
+
+/// Whether a command has the option of this name, which takes no value.
+pub(crate) fn has_flag(entries: &[Entry], name: &str) -> bool
+    ensures { result ≡ has_flag (map entry_values entries.now) name.now }
+{
+    for entry in entries {
+        if entry.argument.is_flag_of(name) {
+            return true;
+        }
+    }
+    false
 }
 
 /// A command: its name, what it does, and the arguments that it takes, in their order.
@@ -106,6 +138,7 @@ fn arg_of<'a>(alloc: Global, argument: &Argument) -> Arg<'a>
             .long(name)
             .required(true)
             .value_parser(ValueParser::Unsigned(range.low, range.high)),
+        Argument::Flag(name) => Arg::new(alloc, name).long(name).action(ArgAction::SetTrue),
         Argument::Required(name) => Arg::new(alloc, name).required(true).action(ArgAction::Set),
         Argument::Optional(name) => Arg::new(alloc, name).action(ArgAction::Set),
         Argument::Many(name) => Arg::new(alloc, name).action(ArgAction::Append),

@@ -81,6 +81,7 @@ fn push_takes(text: &mut String, argument: &Argument) -> Result<(), AllocError>
         Argument::Number(_, range) => push_number(text, range, ", or left out", ""),
         Argument::NumberOr(_, range, default) => push_number(text, range, ", by default ", default),
         Argument::RequiredNumber(_, range) => push_number(text, range, ", required", ""),
+        Argument::Flag(_) => text.push_str("a flag"),
     }
 }
 
@@ -94,6 +95,9 @@ fn push_label(text: &mut String, entry: &Entry) -> Result<(), AllocError>
     };
     text.push_str("--")?;
     text.push_str(name)?;
+    if entry.argument.is_flag() {
+        return Ok(());
+    }
     text.push_str(" ")?;
     text.push_str(entry.value)
 }
@@ -104,7 +108,7 @@ fn is_free_option(argument: &Argument) -> bool
 {
     match *argument {
         Argument::Text(_) | Argument::OneOf(_, _, _) => true,
-        Argument::Number(_, _) | Argument::NumberOr(_, _, _) => true,
+        Argument::Number(_, _) | Argument::NumberOr(_, _, _) | Argument::Flag(_) => true,
         _ => false,
     }
 }

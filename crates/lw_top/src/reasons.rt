@@ -4,11 +4,11 @@ ghost use Rattle.std.specs.List.{list_all, list_any};
 ghost use Rattle.clap.specs.ValueTests.{is_unsigned_in};
 ghost use Rattle.lw_top.specs.Given.{given_values};
 ghost use Rattle.lw_top.specs.HelpTexts.{listed, numbers};
-ghost use Rattle.lw_top.specs.Reasons.{choice_reason, entry_reason, first_told, given_reason, is_given, is_help_flag, is_named, is_option, is_printed, lacks_value, option_reason, range_reason, shown, unknown_flag, unknown_option, value_of, value_reason};
+ghost use Rattle.lw_top.specs.Reasons.{choice_reason, entry_reason, first_told, given_reason, has_value, is_given, is_help_flag, is_named, is_option, is_printed, lacks_value, option_reason, range_reason, shown, unknown_flag, unknown_option, value_of, value_reason};
 ghost use Rattle.lw_top.specs.Syntaxes.{argument_values, entry_values, syntax_values};
 
 use crate::given::Given;
-use crate::options::{Argument, Entry, Syntax};
+use crate::options::{Argument, Entry, Syntax, has_flag};
 use crate::pages::{is_among, push_listed, push_numbers};
 use crate::ranges::Range;
 use std::alloc::{AllocError, Global};
@@ -181,13 +181,27 @@ fn lacks_value(alloc: Global, name: &str, value: Option<&str>) -> Result<Option<
     Ok(Some(around(alloc, "--", name, " needs a value")?))
 }
 
-/// What is told of a thing that is given: an option that the command doesn't have, or that has no value.
+/// What is told of a flag with a value.
+fn has_value(alloc: Global, name: &str, value: Option<&str>) -> Result<Option<String>, AllocError>
+    ensures { IfOk result (λ r. option_map (λ t. string_bytes t) r ≡
+        has_value name.now (option_map (λ v. v.now) value.entry)) }
+{
+    if value.is_none() {
+        return Ok(None);
+    }
+    Ok(Some(around(alloc, "--", name, " takes no value")?))
+}
+
+/// What is told of a thing that is given: an option that the command doesn't have, one without a value, or a flag with one.
 fn given_reason(alloc: Global, syntax: &Syntax, given: &Given) -> Result<Option<String>, AllocError>
     ensures { IfOk result (λ r. option_map (λ t. string_bytes t) r ≡
         given_reason (syntax_values syntax.now) (given_values given.now)) }
 {
     match *given {
         Given::Named(name, value) => {
+            if has_flag(syntax.entries, name) {
+                return has_value(alloc, name, value);
+            }
             if has_option(syntax.entries, name) {
                 return lacks_value(alloc, name, value);
             }

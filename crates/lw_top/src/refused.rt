@@ -10,7 +10,7 @@ use crate::options::Syntax;
 use crate::ranges::Range;
 use crate::reasons::{is_within, range_text};
 use lw_log::Log;
-use lw_outside::LogFile;
+use lw_outside::{LogFile, Sink};
 use lw_report::{Outcome, outcome_text};
 use lw_words::{Kept, NoMemory};
 use std::alloc::Global;
@@ -59,7 +59,12 @@ fn range_line(alloc: Global, option: &str, range: Range) -> Result<String, NoMem
 }
 
 /// Puts a line for each value that is out of its range.
-fn log_ranges<L: LogFile>(alloc: Global, syntax: &Syntax, arguments: &[String], log: &mut Log<L>) {
+fn log_ranges<L: LogFile, N: Sink>(
+    alloc: Global,
+    syntax: &Syntax,
+    arguments: &[String],
+    log: &mut Log<L, N>,
+) {
     for entry in syntax.entries {
         let Some((option, range)) = entry.argument.number() else {
             continue;
@@ -88,11 +93,11 @@ fn logged_syntax(arguments: &[String]) -> Option<&'static Syntax>
 
 /// Puts why arguments of `learn` or `accept` aren't taken to the log that they name, if they name one: the values that are out of
 /// their ranges, and the outcome's text.
-pub(crate) fn log_refused<L: LogFile>(
+pub(crate) fn log_refused<L: LogFile, N: Sink>(
     alloc: Global,
     arguments: &[String],
     stop: ArgumentStop,
-    log: &mut Log<L>,
+    log: &mut Log<L, N>,
 )
     ensures { may_log (texts arguments.now) ≡ false → log.new ≡ log.old }
 {

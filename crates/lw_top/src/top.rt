@@ -136,7 +136,8 @@ fn run_call<
     O: Sink,
     E: Sink,
     L: LogFile,
->(rt: R, alloc: Global, arguments: &[String], world: &mut World<F, P, I, O, E, Log<L>>) -> End
+    N: Sink,
+>(rt: R, alloc: Global, arguments: &[String], world: &mut World<F, P, I, O, E, Log<L, N>>) -> End
     ensures ran { IsRun (texts arguments.now)
         (seen F.state P.state I.state O.state E.state (λ l. l.state) world.old)
         (seen F.state P.state I.state O.state E.state (λ l. l.state) world.new) result }
@@ -182,7 +183,8 @@ pub fn run<
     O: Sink,
     E: Sink,
     L: LogFile,
->(rt: R, alloc: Global, arguments: &[String], world: &mut World<F, P, I, O, E, Log<L>>) -> End
+    N: Sink,
+>(rt: R, alloc: Global, arguments: &[String], world: &mut World<F, P, I, O, E, Log<L, N>>) -> End
     ensures learned { LearnedIsRight (call_of (texts arguments.now)) result }
     ensures yes { YesIsRight (call_of (texts arguments.now)) (F.state world.old.files)
         (F.state world.new.files) result.outcome }

@@ -29,7 +29,7 @@ pub(crate) fn told_reason(alloc: Global, arguments: &[String]) -> Result<String,
     };
     let name = command.as_str();
     match syntax_named(name) {
-        Some(syntax) => reason_by(alloc, syntax, &givens(alloc, words)?),
+        Some(syntax) => reason_by(alloc, syntax, &givens(alloc, syntax.entries, words)?),
         None => unknown_command(alloc, name),
     }
 }

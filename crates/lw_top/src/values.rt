@@ -2,7 +2,7 @@
 ghost use Rattle.std.specs.Prelude.{◌≡◌, ◌≤◌, ◌&&◌, [], Err, map, unwrap_or, Some, None, nat_le, if◌then◌else◌, option_and_then, option_map, IfOk, IfSome, string_bytes};
 ghost use Rattle.clap.specs.Words.{all_of, first_of, found_of, rows_of};
 ghost use Rattle.lw_top.specs.declared.values.ArgumentStop.{ArgumentStop as Stop};
-ghost use Rattle.lw_top.specs.CommandLine.{kind_named, method_named, number_given};
+ghost use Rattle.lw_top.specs.CommandLine.{flag_given, kind_named, method_named, number_given};
 
 use crate::ranges::Range;
 use clap::ArgMatches;
@@ -128,6 +128,16 @@ pub(crate) fn number_at(matches: &ArgMatches, id: &str, range: Range) -> Option<
     ensures bounds { IfSome result (λ n. (range.low ≤ n) × (n ≤ range.high)) }
 {
     within(matches.get_one::<u64>(id), range)
+}
+
+/// Whether a flag is given: clap keeps a text for it, `true` or `false`.
+pub(crate) fn flag_at(matches: &ArgMatches, id: &str) -> bool
+    ensures { result ≡ flag_given id.now (rows_of (found_of matches.now)) }
+{
+    match str_at(matches, id) {
+        Some(text) => text == "true",
+        None => false,
+    }
 }
 
 /// The kind of learner of this name.

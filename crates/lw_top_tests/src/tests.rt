@@ -3,6 +3,7 @@ mod acceptors;
 mod asking;
 mod cases;
 mod children;
+mod flags;
 mod helping;
 mod naming;
 mod nested;

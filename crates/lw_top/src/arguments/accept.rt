@@ -10,8 +10,8 @@ ghost use Rattle.lw_top.specs.declared.values.ArgumentStop.{ArgumentStop as Stop
 use crate::ArgumentStop;
 use crate::arguments::learn::values_for;
 use crate::entries::{
-    EXTRA_ENTRY, KEPT, LEARNER, LENGTH_ENTRY, LOG, MAX_STATES, RANDOM_ENTRY, SEED_ENTRY, SETUP,
-    WALKS, WORDS, WORKERS_ENTRY,
+    EXTRA_ENTRY, KEPT, LAST, LEARNER, LENGTH_ENTRY, LOG, MAX_STATES, RANDOM_ENTRY, SEED_ENTRY,
+    SETUP, VERBOSE, WALKS, WORDS, WORKERS_ENTRY,
 };
 use crate::matching::read_matches;
 use crate::options::{Argument, Entry, Syntax};
@@ -48,6 +48,8 @@ static ACCEPT: Syntax = Syntax {
         LENGTH_ENTRY,
         SEED_ENTRY,
         LOG,
+        LAST,
+        VERBOSE,
     ],
     texts: &["SETUP"],
     takes_more: false,
@@ -74,6 +76,7 @@ fn files_at(alloc: Global, matches: &ArgMatches) -> Result<LearnFiles, AllocErro
         answers: None,
         prior: None,
         kept: text_at(alloc, matches, "kept")?,
+        last: text_at(alloc, matches, "last")?,
         words: text_at(alloc, matches, "words")?,
         log: text_at(alloc, matches, "log")?,
     })

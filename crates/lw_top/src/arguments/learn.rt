@@ -3,19 +3,19 @@ ghost use Rattle.std.specs.Prelude.{◌≡◌, ◌≤◌, Some, None, Err, IfOk,
 ghost use Rattle.clap.specs.Words.{found_of, rows_of};
 ghost use Rattle.lw_learn.specs.Arguments.{AreFewDrawn};
 ghost use Rattle.lw_top.specs.CommandLine.{texts, app_for};
-ghost use Rattle.lw_top.specs.LearnCommand.{draw_values, drawn_by, drawn_in, file_names, files_in, learn_app, learn_found, learn_syntax, learn_values, learn_values_from, setting_values, settings_by, source_from, source_in};
+ghost use Rattle.lw_top.specs.LearnCommand.{draw_values, drawn_by, drawn_in, file_names, files_in, learn_app, learn_found, learn_syntax, learn_values, learn_values_from, setting_values, settings_by, source_from, source_in, verbose_in};
 ghost use Rattle.lw_top.specs.Syntaxes.{syntax_values};
 ghost use Rattle.lw_top.specs.declared.values.ArgumentStop.{ArgumentStop as Stop};
 
 use crate::ArgumentStop;
 use crate::entries::{
-    EXTRA_ENTRY, KEPT, LEARNER, LENGTH_ENTRY, LOG, MAX_STATES, MODEL, RANDOM_ENTRY, SEED_ENTRY,
-    SETUP, SUITE, TABLE, WALKS, WORDS, WORKERS_ENTRY,
+    EXTRA_ENTRY, KEPT, LAST, LEARNER, LENGTH_ENTRY, LOG, MAX_STATES, MODEL, RANDOM_ENTRY,
+    SEED_ENTRY, SETUP, SUITE, TABLE, VERBOSE, WALKS, WORDS, WORKERS_ENTRY,
 };
 use crate::matching::read_matches;
 use crate::options::{Argument, Entry, Syntax};
 use crate::ranges::{EXTRA, LENGTH, RANDOM, SEED, STATES, WORKERS};
-use crate::values::{kind_at, method_at, number_at, str_at, text_at};
+use crate::values::{flag_at, kind_at, method_at, number_at, str_at, text_at};
 use clap::ArgMatches;
 use lw_chunks::Method;
 use lw_draw::Drawn;
@@ -53,6 +53,8 @@ static LEARN: Syntax = Syntax {
         SEED_ENTRY,
         LOG,
         SUITE,
+        LAST,
+        VERBOSE,
     ],
     texts: &["SETUP"],
     takes_more: false,
@@ -176,6 +178,7 @@ fn files_at(alloc: Global, matches: &ArgMatches) -> Result<LearnFiles, AllocErro
         answers: text_at(alloc, matches, "answers")?,
         prior: text_at(alloc, matches, "prior")?,
         kept: text_at(alloc, matches, "kept")?,
+        last: text_at(alloc, matches, "last")?,
         words: text_at(alloc, matches, "words")?,
         log: text_at(alloc, matches, "log")?,
     })
@@ -192,11 +195,13 @@ pub(crate) fn values_for(
     ensures ok { IfOk result (λ a. learn_values_from goal
         (source_in (rows_of (found_of matches.now)))
         (settings_by suite (rows_of (found_of matches.now)))
-        (drawn_in (rows_of (found_of matches.now))) (file_names files) ≡ Some a) }
+        (drawn_in (rows_of (found_of matches.now))) (file_names files)
+        (verbose_in (rows_of (found_of matches.now))) ≡ Some a) }
     ensures refused { result ≡ Err Stop.Usage →
         learn_values_from goal (source_in (rows_of (found_of matches.now)))
         (settings_by suite (rows_of (found_of matches.now)))
-        (drawn_in (rows_of (found_of matches.now))) (file_names files) ≡ None }
+        (drawn_in (rows_of (found_of matches.now))) (file_names files)
+        (verbose_in (rows_of (found_of matches.now))) ≡ None }
 {
     let Some(draws) = draws_at(matches) else {
         return Err(ArgumentStop::Usage);
@@ -205,7 +210,8 @@ pub(crate) fn values_for(
         return Err(ArgumentStop::Usage);
     };
     let (source, system) = source_at(alloc, matches)?;
-    Ok(LearnArguments::new(goal, source, system, settings, draws.words, files))
+    let verbose = flag_at(matches, "verbose");
+    Ok(LearnArguments::new(goal, source, system, settings, draws.words, files, verbose))
 }
 
 /// The values that clap found, where the file of the system is named.

@@ -104,7 +104,7 @@ type MemoryWorld = World<
     MemorySource,
     MemorySink,
     MemorySink,
-    Log<MemoryLog>,
+    Log<MemoryLog, MemorySink>,
 >;
 
 /// What a call is over: its arguments and a world, in memory.
@@ -122,7 +122,7 @@ fn world_over(rt: &impl Abort, alloc: Global, files: MemoryFiles) -> MemoryWorld
         input: source(rt, alloc, "", &[]),
         out: sink(rt, alloc, 4096, &[]),
         err: sink(rt, alloc, 4096, &[]),
-        log: Log::new(alloc, MemoryLog::new(alloc)),
+        log: Log::new(alloc, MemoryLog::new(alloc), sink(rt, alloc, 4096, &[])),
     }
 }
 

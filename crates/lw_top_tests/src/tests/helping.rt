@@ -14,7 +14,7 @@ help: lists the commands, or the arguments of one
 ";
 
 const LEARN: &str = "learn: learns a program, or the machine of a file
-usage: learn (SETUP | --table FILE) [--workers N] [--extra K] [--learner KIND] [--max-states N] [--model FILE] [--answers FILE] [--prior FILE] [--kept FILE] [--words FILE] [--random R] [--walks N] [--length L] [--seed S] [--log FILE] [--suite METHOD]
+usage: learn (SETUP | --table FILE) [--workers N] [--extra K] [--learner KIND] [--max-states N] [--model FILE] [--answers FILE] [--prior FILE] [--kept FILE] [--words FILE] [--random R] [--walks N] [--length L] [--seed S] [--log FILE] [--suite METHOD] [--last FILE] [--verbose]
   (SETUP | --table FILE): a text; the setup file of the program
   --table FILE: a text, or left out; the file of a machine in place of the setup
   --workers N: 1 to 16, by default 1; how many instances are asked at once
@@ -32,10 +32,12 @@ usage: learn (SETUP | --table FILE) [--workers N] [--extra K] [--learner KIND] [
   --seed S: 0 to 18446744073709551615, or left out; what the drawing begins with; with --length and --random or --walks
   --log FILE: a text, or left out; where each step is logged
   --suite METHOD: one of w, wp, h, by default w; how suites are made: by the W-, Wp- or H-method
+  --last FILE: a text, or left out; where the machine of the last closed learner is written at an end without a model
+  --verbose: a flag; tells reasons and progress on standard error
 ";
 
 const ACCEPT: &str = "accept: learns which words a program accepts, or the acceptor of a file
-usage: accept (SETUP | --table FILE) [--workers N] [--extra K] [--learner KIND] [--max-states N] [--model FILE] [--kept FILE] [--words FILE] [--random R] [--walks N] [--length L] [--seed S] [--log FILE]
+usage: accept (SETUP | --table FILE) [--workers N] [--extra K] [--learner KIND] [--max-states N] [--model FILE] [--kept FILE] [--words FILE] [--random R] [--walks N] [--length L] [--seed S] [--log FILE] [--last FILE] [--verbose]
   (SETUP | --table FILE): a text; the setup file of the program
   --table FILE: a text, or left out; the file of an acceptor in place of the setup
   --workers N: 1 to 16, by default 1; how many instances are asked at once
@@ -50,6 +52,8 @@ usage: accept (SETUP | --table FILE) [--workers N] [--extra K] [--learner KIND] 
   --length L: 0 to 65536, or left out; how many letters are drawn for each; with --seed and --random or --walks
   --seed S: 0 to 18446744073709551615, or left out; what the drawing begins with; with --length and --random or --walks
   --log FILE: a text, or left out; where each step is logged
+  --last FILE: a text, or left out; where the machine of the last closed learner is written at an end without a model
+  --verbose: a flag; tells reasons and progress on standard error
 ";
 
 const ASK: &str = "ask: asks a program, a machine or an acceptor words

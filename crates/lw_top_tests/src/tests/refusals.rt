@@ -12,8 +12,8 @@ pub const USAGE: &str =
        check MODEL ANSWERS [--extra K] [--suite w|wp]
        serve MODEL
        trial --states N --inputs A --seed S [--workers N] [--learner table|ttt]
-added: learn .. [--kept FILE] [--words FILE] [[--random R] [--walks N] --length L --seed S] [--log FILE] [--suite w|wp|h]
-       accept .. [--kept FILE] [--words FILE] [[--random R] [--walks N] --length L --seed S] [--log FILE]
+added: learn .. [--kept FILE] [--words FILE] [[--random R] [--walks N] --length L --seed S] [--log FILE] [--suite w|wp|h] [--last FILE] [--verbose]
+       accept .. [--kept FILE] [--words FILE] [[--random R] [--walks N] --length L --seed S] [--log FILE] [--last FILE] [--verbose]
        check (MODEL | --acceptor FILE) ANSWERS [--extra K] [--suite w|wp|h]
        ask (SETUP | --table FILE | --accept SETUP | --acceptor FILE) WORD...
        recheck SETUP ANSWERS
@@ -264,7 +264,7 @@ fn tells<R: Threads + Wait + Sync + Copy + Drop>(
 }
 
 /// Whether these arguments are not taken, for this reason.
-fn is_refused<R: Abort + Threads + Wait + Sync + Copy + Drop>(
+pub fn is_refused<R: Abort + Threads + Wait + Sync + Copy + Drop>(
     rt: &R,
     alloc: Global,
     arguments: &[&str],

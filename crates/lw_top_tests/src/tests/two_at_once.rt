@@ -220,7 +220,7 @@ type MeetingWorld = World<
     MemorySource,
     MemorySink,
     MemorySink,
-    lw_log::Log<MemoryLog>,
+    lw_log::Log<MemoryLog, MemorySink>,
 >;
 
 /// The status of the top call over such children.
