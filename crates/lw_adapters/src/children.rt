@@ -64,10 +64,23 @@ impl<R: AllocGlobal> RealSpawner<R> {
         }
     }
 
-    /// Waits for the end of each child that was started, as long as one goes on that doesn't mind that its pipes are closed. No
-    /// fault here is counted.
-    pub fn wait_for_ends(&mut self) {
-        for child in self.children.iter_mut() {
+    /// How many children were started: their numbers are those below.
+    pub fn children(&self) -> usize {
+        self.children.len()
+    }
+
+    /// Whether the child of this number hasn't ended yet.
+    pub fn goes_on(&mut self, number: usize) -> bool {
+        match self.children.get_mut(number) {
+            Some(child) => matches!(child.try_wait(), Ok(None)),
+            None => false,
+        }
+    }
+
+    /// Waits for the end of the child of this number, as long as it goes on and doesn't mind that its pipes are closed. No fault
+    /// here is counted.
+    pub fn wait_for_end(&mut self, number: usize) {
+        if let Some(child) = self.children.get_mut(number) {
             let _status = child.wait();
         }
     }
@@ -221,7 +234,7 @@ impl<R: Files + Processes<Started = SystemProcess> + AllocGlobal> Spawner for Re
         }
     }
 
-    /// Closes both pipes, so that a child that waits at one of them goes on to its end. `wait_for_ends` waits for that end.
+    /// Closes both pipes, so that a child that waits at one of them goes on to its end. `wait_for_end` waits for that end.
     fn retire(&mut self, link: RealLink) {
         self.retired = self.retired.and(&link, &());
     }

@@ -7,14 +7,16 @@ use lw_adapters::{
 };
 use lw_learn::LearnArguments;
 use lw_log::Log;
-use lw_outside::{Sink, World, put_all};
+use lw_outside::{LogFile, Sink, World, put_all};
 use lw_top::{accept_arguments, learn_arguments, run, without_arguments};
+use lw_words::NoMemory;
 use std::alloc::Global;
 use std::fs::{self, File};
 use std::io::{self, ErrorKind};
 use std::os::fd::AsRawFd;
 use std::process::ExitCode;
 use std::thread::Threads;
+use std::time::Duration;
 use std::{env, thread};
 
 /// The arguments of the command line after the program's own name; none where they aren't text.
@@ -77,25 +79,37 @@ fn refuse_shared<E: Sink>(
     Some(2)
 }
 
-/// The status of a learning that names a file twice, which is reported: by two names, or by one as its log, its kept answers or
-/// its words and for something else. None of any other call. Kept answers may have the name of the prior ones, and the answers
-/// that of the model.
+/// The status of a learning that names a file by two names, which is reported.
+fn refuse_names<E: Sink>(rt: &HostRuntime, arguments: &LearnArguments, err: &mut E) -> Option<u8> {
+    let (model, answers, kept) = (arguments.model(), arguments.answers(), arguments.kept());
+    let (last, words, log) = (arguments.last(), arguments.words(), arguments.log());
+    let others = [Some(arguments.system()), arguments.prior()];
+    let names = two_names(rt, &[model, answers, kept, last, log, words], &others)?;
+    let (name, other) = (names.name, names.other);
+    tell(
+        err,
+        &["one file under two names: ", name, ", ", other, "\n"],
+    );
+    Some(2)
+}
+
+/// The status of a learning that names a file twice, which is reported: by two names, or by one as its log, its last machine, its
+/// kept answers or its words and for something else. None of any other call. Kept answers may have the name of the prior ones, and
+/// the answers that of the model.
 fn refuse<E: Sink>(rt: &HostRuntime, arguments: &[String], err: &mut E) -> Option<u8> {
     let arguments = learning(rt.alloc(), arguments)?;
+    if let Some(status) = refuse_names(rt, &arguments, err) {
+        return Some(status);
+    }
     let (model, answers, kept) = (arguments.model(), arguments.answers(), arguments.kept());
     let (prior, words, log) = (arguments.prior(), arguments.words(), arguments.log());
-    let system = Some(arguments.system());
-    let options = [model, answers, kept, log, words];
-    if let Some(names) = two_names(rt, &options, &[system, prior]) {
-        let (name, other) = (names.name, names.other);
-        tell(
-            err,
-            &["one file under two names: ", name, ", ", other, "\n"],
-        );
-        return Some(2);
+    let (system, last) = (Some(arguments.system()), arguments.last());
+    let others = [model, answers, system, prior, words, kept, last];
+    if let Some(status) = refuse_shared(rt, log, "the log", &others, err) {
+        return Some(status);
     }
-    let all = [model, answers, system, prior, words, kept];
-    if let Some(status) = refuse_shared(rt, log, "the log", &all, err) {
+    let others = [model, answers, system, prior, words, kept];
+    if let Some(status) = refuse_shared(rt, last, "the last machine", &others, err) {
         return Some(status);
     }
     let others = [model, answers, system, words];
@@ -114,6 +128,36 @@ fn watched(threads: &impl Threads, rt: HostRuntime) -> Option<Sends> {
     Some(sends)
 }
 
+/// That the end of the child of this number is waited for.
+fn waiting_note(alloc: Global, number: usize) -> Result<String, NoMemory> {
+    Ok(format!(in alloc; "waiting for instance {number} to end\n")?)
+}
+
+/// Whether the child of this number goes on for half a second from now.
+fn is_slow(rt: &HostRuntime, spawner: &mut RealSpawner<HostRuntime>, number: usize) -> bool {
+    for _ in 0..50 {
+        if !spawner.goes_on(number) {
+            return false;
+        }
+        thread::sleep(rt, Duration::from_millis(10));
+    }
+    true
+}
+
+/// Waits for the end of each child that was started, and notes each that makes it wait.
+fn wait_for_ends<L: LogFile, N: Sink>(
+    rt: &HostRuntime,
+    spawner: &mut RealSpawner<HostRuntime>,
+    log: &mut Log<L, N>,
+) {
+    for number in 0..spawner.children() {
+        if log.is_verbose() && is_slow(rt, spawner, number) {
+            log.note(waiting_note(rt.alloc(), number));
+        }
+        spawner.wait_for_end(number);
+    }
+}
+
 fn main(rt: HostRuntime) -> ExitCode {
     let alloc: Global = rt.alloc();
     // What is opened takes the least number that is free. Where standard streams are closed the folder takes theirs, so that no
@@ -130,7 +174,7 @@ fn main(rt: HostRuntime) -> ExitCode {
         input: Input::new(rt.stdin()),
         out: Stream::new(rt.stdout()),
         err: Stream::new(rt.stderr()),
-        log: Log::new(alloc, RealLog::new(rt)),
+        log: Log::new(alloc, RealLog::new(rt), Stream::new(rt.stderr())),
     };
     let status = match arguments(&rt) {
         Ok(arguments) => match refuse(&rt, &arguments, &mut world.err) {
@@ -139,6 +183,6 @@ fn main(rt: HostRuntime) -> ExitCode {
         },
         Err(_) => without_arguments(alloc, &mut world.err).status,
     };
-    world.spawner.wait_for_ends();
+    wait_for_ends(&rt, &mut world.spawner, &mut world.log);
     ExitCode::from(status)
 }
