@@ -323,14 +323,15 @@ def cut(system, rows, access, word):
 def learn(learner, extra, method, drawn=None):
     """The machine of a learner, after the rounds of a learning with a method's suite, and maybe with walks behind it.
 
-    Of walks it takes how many there are, how many letters are drawn for each, and a seed.
+    Of walks it takes how many there are, how many letters are drawn for each, and a seed. The learner has the last machine, also
+    where there are too many states or too large a suite.
     """
-    system = learner.system
+    system, learner.last = learner.system, None
     system.noted = len(system.asked)
     learner.close()
     note(learner, "table", 0)
     for turn in itertools.count(1):
-        machine = learner.machine()
+        machine = learner.last = learner.machine()
         word = system.differing(machine)
         if word is None and learner.settle_block():
             note(learner, "settling", turn)
