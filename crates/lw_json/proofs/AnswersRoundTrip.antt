@@ -1,14 +1,16 @@
 -- The value that is written for answers spells them.
-use Rattle.std.proofs.Common.{◌≡◌, ◌∙◌, ℕ, ◌≤◌, List, Bool, length, map, Some, None, nat_lt, if◌then◌else◌, refl, sym, ap, subst, arith, false}
+use Rattle.std.proofs.Common.{◌≡◌, ◌∙◌, ℕ, ◌≤◌, List, [], ◌∷◌, ◌++◌, Bool, length, map, Some, None, nat_lt, if◌then◌else◌, refl, sym, ap, subst, arith, false}
 use Rattle.std.specs.List.{All}
 use Rattle.std.proofs.lemmas.Bool.Decides.{Decides-ltb}
 use Rattle.std.proofs.lemmas.List.{map-id}
 use Rattle.serde_json.specs.Data.{string, depth}
-use Rattle.serde_json.specs.Written.{has_float}
+use Rattle.serde_json.specs.Written.{compact_text, has_float}
+use Rattle.serde_json.proofs.OnLiterals.{serde_json_on_literals}
 use Rattle.lw_words.specs.Word.{IsNames, word_text}
 use Rattle.lw_words.specs.declared.kept.KeptAnswer.{KeptAnswer}
-use Rattle.lw_json.specs.Formats.{WrittenAnswer, WrittenAnswers, SaysAnswers, SpellsAnswers, written_answer_of, numbered_answer, each_of, AreInputs}
+use Rattle.lw_json.specs.Formats.{WrittenAnswer, WrittenAnswers, SaysMembers, SpellsAnswers, written_answer_of, numbered_answer, each_of, AreInputs}
 use Rattle.lw_json.specs.AnswersText.{IsWrittenOrder, answer_data, answers_data}
+use Rattle.lw_json.specs.Journal.{is_journal}
 use Rattle.lw_json.specs.KeptOver.{IsKeptOver}
 use Rattle.lw_json.specs.declared.files.Answers.{Answers}
 use Rattle.lw_json.proofs.EachLemmas.{no_float_items}
@@ -27,13 +29,13 @@ module _ (inputs outputs : List (List ℕ)) where
   abbrev pub written_of : List KeptAnswer → WrittenAnswers
   written_of ks = record { inputs = inputs; outputs = outputs; answers = map written ks }
 
-  abbrev IsOver : KeptAnswer → Type 0
+  abbrev pub IsOver : KeptAnswer → Type 0
   IsOver k = IsKeptOver (length inputs) (length outputs) k
 
-  read_answer : (k : KeptAnswer) → IsOver k → written_answer_of (answer_data inputs outputs k) ≡ Some (written k)
+  pub read_answer : (k : KeptAnswer) → IsOver k → written_answer_of (answer_data inputs outputs k) ≡ Some (written k)
   read_answer k h = rw (small k.instance h.instance) refl
 
-  pub says_it : (ks : List KeptAnswer) → All IsOver ks → SaysAnswers (answers_data inputs outputs ks) (written_of ks)
+  pub says_it : (ks : List KeptAnswer) → All IsOver ks → SaysMembers (answers_data inputs outputs ks) (written_of ks)
   says_it ks over = record {
     inputs = read_texts inputs;
     outputs = read_texts outputs;
@@ -44,7 +46,7 @@ module _ (inputs outputs : List (List ℕ)) where
     read_words : (k : KeptAnswer) → IsOver k → numbered_answer inputs outputs (written k) ≡ Some k
     read_words k h = rw (read_back inputs inputs_named k.word h.word, read_back outputs outputs_named k.outs h.outs) refl
 
-    read_kept : (ks : List KeptAnswer) → All IsOver ks → each_of (numbered_answer inputs outputs) (map written ks) ≡ Some ks
+    pub read_kept : (ks : List KeptAnswer) → All IsOver ks → each_of (numbered_answer inputs outputs) (map written ks) ≡ Some ks
     read_kept ks over = each_of-map written (numbered_answer inputs outputs) (λ k. k) IsOver read_words ks over ∙ ap (λ (l : List KeptAnswer). Some l) (map-id ks)
 
     -- what is written are the answers, in the one order in which they are written
@@ -76,3 +78,8 @@ module _ (inputs outputs : List (List ℕ)) where
       let outs = shallow string 0 (λ _. omega arith) outputs in
       let list = shallow (answer_data inputs outputs) 1 (λ _. omega arith) ks in
       omega arith
+
+  -- what is written begins with another member than a journal
+  pub no_journal : (ks : List KeptAnswer) → is_journal (compact_text (answers_data inputs outputs ks) ++ 10 ∷ []) ≡ false
+  unfolding serde_json_on_literals
+  no_journal ks = refl

@@ -3,10 +3,7 @@ use Rattle.std.proofs.Common.{◌≡◌, ⊎_elim, ℕ, List, Bool, Some, subst,
 use Rattle.std.specs.Result.{IfOk, IfErr, IsErrAnd}
 use Rattle.std.specs.declared.result.Result.{Result}
 use Rattle.std.specs.declared.result.Result.TheVariants.{Ok, Err}
-use Rattle.serde_json.specs.Data.{Data}
 use Rattle.lw_json.specs.Fault.{HasFault, first_failing}
-use Rattle.lw_json.specs.Formats.{IsJson}
-use Rattle.lw_json.specs.Members.{IsUnreadJson}
 use Rattle.lw_json.specs.bodies.Told.{Told}
 use Rattle.lw_json.specs.declared.fault.Field.{Field}
 use Rattle.lw_json.specs.declared.fault.JsonFault.{JsonFault}
@@ -31,23 +28,19 @@ fault_holds P Q (Err e) each h = each e h
 pub told_by : {F : Type 0} (wrap : F → JsonFault) (P : F → Type 0) (Q : JsonFault → Type 0) (told : JsonFault) → Told wrap P told → Q NoMemory → ((fault : F) → P fault → Q (wrap fault)) → Q told
 told_by wrap P Q told h none each = ⊎_elim (λ e. subst Q (sym e) none) (λ w. subst Q (sym w.1) (each w.0 w.2)) h
 
-module _ {S : Type 0} (tests : Data → List (Field × Bool)) (Says : Data → S → Type 0) (SaysFault : S → JsonFault → Type 0) where
-  -- bytes that are no JSON
-  pub unread : (bytes : List ℕ) (told : JsonFault) → IsUnreadJson bytes told → HasFault tests Says SaysFault bytes told
-  unread bytes told h = ⊎_elim (λ e. subst (HasFault tests Says SaysFault bytes) (sym e) tt) (λ w. subst (HasFault tests Says SaysFault bytes) (sym w.0) w.1) h
+module _ {D S : Type 0} (IsRead : List ℕ → D → Type 0) (tests : D → List (Field × Bool)) (Says : D → S → Type 0) (SaysFault : S → JsonFault → Type 0) where
+  -- what is read has not its shape
+  pub misshapen : (bytes : List ℕ) (d : D) (told : JsonFault) → IsRead bytes d → Told Shape (λ field. first_failing (tests d) ≡ Some field) told → HasFault IsRead tests Says SaysFault bytes told
+  misshapen bytes d told read h = told_by Shape (λ field. first_failing (tests d) ≡ Some field) (HasFault IsRead tests Says SaysFault bytes) told h tt (λ field e. (d, read, e))
 
-  -- a member without its shape
-  pub misshapen : (bytes : List ℕ) (d : Data) (told : JsonFault) → IsJson bytes d → Told Shape (λ field. first_failing (tests d) ≡ Some field) told → HasFault tests Says SaysFault bytes told
-  misshapen bytes d told json h = told_by Shape (λ field. first_failing (tests d) ≡ Some field) (HasFault tests Says SaysFault bytes) told h tt (λ field e. (d, json, e))
-
-  -- a fault of what the members say
-  pub said_fault : (bytes : List ℕ) (d : Data) (s : S) → ¬ SaysFault s NotJson → ((field : Field) → ¬ SaysFault s (Shape field)) → IsJson bytes d → Says d s → (told : JsonFault) → SaysFault s told → HasFault tests Says SaysFault bytes told
-  said_fault bytes d s no_text no_shape json says NotJson h = absurd (no_text h)
-  said_fault bytes d s no_text no_shape json says (Shape field) h = absurd (no_shape field h)
-  said_fault bytes d s no_text no_shape json says (Inputs fault) h = (d, json, (s, says, h))
-  said_fault bytes d s no_text no_shape json says (Outputs fault) h = (d, json, (s, says, h))
-  said_fault bytes d s no_text no_shape json says (UnknownOutput q x) h = (d, json, (s, says, h))
-  said_fault bytes d s no_text no_shape json says (Mealy fault) h = (d, json, (s, says, h))
-  said_fault bytes d s no_text no_shape json says (BadWord place) h = (d, json, (s, says, h))
-  said_fault bytes d s no_text no_shape json says (Lengths place) h = (d, json, (s, says, h))
-  said_fault bytes d s no_text no_shape json says NoMemory h = tt
+  -- a fault of what it says
+  pub said_fault : (bytes : List ℕ) (d : D) (s : S) → ¬ SaysFault s NotJson → ((field : Field) → ¬ SaysFault s (Shape field)) → IsRead bytes d → Says d s → (told : JsonFault) → SaysFault s told → HasFault IsRead tests Says SaysFault bytes told
+  said_fault bytes d s no_text no_shape read says NotJson h = absurd (no_text h)
+  said_fault bytes d s no_text no_shape read says (Shape field) h = absurd (no_shape field h)
+  said_fault bytes d s no_text no_shape read says (Inputs fault) h = (d, read, (s, says, h))
+  said_fault bytes d s no_text no_shape read says (Outputs fault) h = (d, read, (s, says, h))
+  said_fault bytes d s no_text no_shape read says (UnknownOutput q x) h = (d, read, (s, says, h))
+  said_fault bytes d s no_text no_shape read says (Mealy fault) h = (d, read, (s, says, h))
+  said_fault bytes d s no_text no_shape read says (BadWord place) h = (d, read, (s, says, h))
+  said_fault bytes d s no_text no_shape read says (Lengths place) h = (d, read, (s, says, h))
+  said_fault bytes d s no_text no_shape read says NoMemory h = tt

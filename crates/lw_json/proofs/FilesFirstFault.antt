@@ -3,7 +3,6 @@ use Rattle.std.proofs.Common.{◌≡◌, ◌≢◌, ◌∙◌, ℕ, List, [], Bo
 use Rattle.std.specs.List.{All}
 use Rattle.std.proofs.lemmas.Option.{none-some}
 use Rattle.json.proofs.Found.{Some_inj}
-use Rattle.serde_json.specs.Data.{Data}
 use Rattle.lw_words.specs.First.{FailsFirst}
 use Rattle.lw_words.specs.declared.kept.KeptAnswer.{KeptAnswer}
 use Rattle.lw_words.specs.declared.names.NamesFault.{NamesFault}
@@ -11,7 +10,7 @@ use Rattle.lw_mealy.specs.Fault as rows
 use Rattle.lw_mealy.specs.Machine.{Rows}
 use Rattle.lw_mealy.specs.declared.fault.MealyFault.{MealyFault}
 use Rattle.lw_json.specs.AnswersFault.{AnswerHasWords, SaysAnswersFault, HasAnswersFault, answers_tests}
-use Rattle.lw_json.specs.Formats.{WrittenAnswer, WrittenAnswers, SaysAnswers, numbered_answer, each_of, NamedRow, WrittenMachine, SaysMachine, IsJson}
+use Rattle.lw_json.specs.Formats.{IsDocument, WrittenAnswer, WrittenAnswers, SaysAnswers, numbered_answer, each_of, NamedRow, WrittenMachine, SaysMachine, IsJson}
 use Rattle.lw_json.specs.Fault.{HasFault, HasOneFault, first_failing}
 use Rattle.lw_words.specs.Word.{IsWholeKept}
 use Rattle.lw_json.specs.MachineFault.{HasOutputIn, UnknownFirst, SaysMachineFault, HasMachineFault, machine_tests}
@@ -22,6 +21,7 @@ use Rattle.lw_json.specs.declared.fault.JsonFault.TheVariants.{NotJson, Shape, I
 use Rattle.lw_json.proofs.FilesNoFault.{unknown_none, machine_passes, setup_passes, answers_passes, machine_same, answers_same}
 use Rattle.lw_json.proofs.FirstFault.{first_one, one_names, one_rows}
 use Rattle.lw_json.proofs.NoFault.{names_none, each_some}
+use Rattle.lw_json.proofs.OneAnswers.{one_document, one_json}
 
 one_unknown : (outputs : List (List ℕ)) (states : List NamedRow) (q x r y : ℕ) → UnknownFirst outputs states q x → UnknownFirst outputs states r y → (q ≡ r) × (x ≡ y)
 one_unknown outputs states q x r y h k =
@@ -169,16 +169,16 @@ answers_one w (Lengths a) (BadWord b) h k n n' = absurd (no_bad_word w.inputs w.
 answers_one w (Lengths a) (Lengths b) h k n n' = ap (λ (x : ℕ). Lengths x) (first_one no_kept IsWholeKept k.2.0 a b (subst (λ (l : List KeptAnswer). FailsFirst IsWholeKept l a) (Some_inj h.2.0 k.2.0 (sym h.2.1 ∙ k.2.1)) h.2.2) k.2.2)
 
 -- bytes, for each kind
-module _ {S : Type 0} (tests : Data → List (Field × Bool)) (Says : Data → S → Type 0) (SaysFault : S → JsonFault → Type 0) (passes : (d : Data) (s : S) → Says d s → first_failing (tests d) ≡ None)
-    (same : (d : Data) (s t : S) → Says d s → Says d t → s ≡ t) (one : (s : S) (f g : JsonFault) → SaysFault s f → SaysFault s g → f ≢ NoMemory → g ≢ NoMemory → f ≡ g) where
+module _ {D S : Type 0} (IsRead : List ℕ → D → Type 0) (tests : D → List (Field × Bool)) (Says : D → S → Type 0) (SaysFault : S → JsonFault → Type 0) (one_read : (bytes : List ℕ) (d e : D) → IsRead bytes d → IsRead bytes e → d ≡ e)
+    (passes : (d : D) (s : S) → Says d s → first_failing (tests d) ≡ None) (same : (d : D) (s t : S) → Says d s → Says d t → s ≡ t) (one : (s : S) (f g : JsonFault) → SaysFault s f → SaysFault s g → f ≢ NoMemory → g ≢ NoMemory → f ≡ g) where
   -- at which stage a fault stands
   data Stage (bytes : List ℕ) (f : JsonFault) : Type 0 where
     wanting : f ≡ NoMemory → Stage bytes f
-    unread : f ≡ NotJson → ((d : Data) → ¬ IsJson bytes d) → Stage bytes f
-    misshapen : (field : Field) (d : Data) → f ≡ Shape field → IsJson bytes d → first_failing (tests d) ≡ Some field → Stage bytes f
-    said : (d : Data) (s : S) → IsJson bytes d → Says d s → SaysFault s f → Stage bytes f
+    unread : f ≡ NotJson → ((d : D) → ¬ IsRead bytes d) → Stage bytes f
+    misshapen : (field : Field) (d : D) → f ≡ Shape field → IsRead bytes d → first_failing (tests d) ≡ Some field → Stage bytes f
+    said : (d : D) (s : S) → IsRead bytes d → Says d s → SaysFault s f → Stage bytes f
 
-  stage : (bytes : List ℕ) (f : JsonFault) → HasFault tests Says SaysFault bytes f → Stage bytes f
+  stage : (bytes : List ℕ) (f : JsonFault) → HasFault IsRead tests Says SaysFault bytes f → Stage bytes f
   stage bytes NotJson h = unread refl h
   stage bytes (Shape field) h = misshapen field h.0 refl h.1 h.2
   stage bytes (Inputs fault) h = said h.0 h.2.0 h.1 h.2.1 h.2.2
@@ -189,12 +189,12 @@ module _ {S : Type 0} (tests : Data → List (Field × Bool)) (Says : Data → S
   stage bytes (Lengths place) h = said h.0 h.2.0 h.1 h.2.1 h.2.2
   stage bytes NoMemory h = wanting refl
 
-  no_shape : (bytes : List ℕ) (d e : Data) (s : S) (field : Field) → IsJson bytes d → IsJson bytes e → Says d s → ¬ (first_failing (tests e) ≡ Some field)
-  no_shape bytes d e s field j i says bad = none-some field (sym (passes d s says) ∙ (ap (λ (x : Data). first_failing (tests x)) (Some_inj d e (sym j.1 ∙ i.1)) ∙ bad))
+  no_shape : (bytes : List ℕ) (d e : D) (s : S) (field : Field) → IsRead bytes d → IsRead bytes e → Says d s → ¬ (first_failing (tests e) ≡ Some field)
+  no_shape bytes d e s field j i says bad = none-some field (sym (passes d s says) ∙ (ap (λ (x : D). first_failing (tests x)) (one_read bytes d e j i) ∙ bad))
 
-  one_said : (bytes : List ℕ) (d e : Data) (s t : S) (f g : JsonFault) → IsJson bytes d → IsJson bytes e → Says d s → Says e t → SaysFault s f → SaysFault t g → f ≢ NoMemory → g ≢ NoMemory → f ≡ g
+  one_said : (bytes : List ℕ) (d e : D) (s t : S) (f g : JsonFault) → IsRead bytes d → IsRead bytes e → Says d s → Says e t → SaysFault s f → SaysFault t g → f ≢ NoMemory → g ≢ NoMemory → f ≡ g
   one_said bytes d e s t f g j i says tells h k n n' =
-      let here : Says e s = subst (λ (x : Data). Says x s) (Some_inj d e (sym j.1 ∙ i.1)) says in
+      let here : Says e s = subst (λ (x : D). Says x s) (one_read bytes d e j i) says in
       one t f g (subst (λ (x : S). SaysFault x f) (same e s t here tells) h) k n n'
 
   one_stage : (bytes : List ℕ) (f g : JsonFault) → Stage bytes f → Stage bytes g → f ≢ NoMemory → g ≢ NoMemory → f ≡ g
@@ -206,21 +206,21 @@ module _ {S : Type 0} (tests : Data → List (Field × Bool)) (Says : Data → S
   one_stage bytes f g (misshapen field d e j bad) (wanting e') n n' = absurd (n' e')
   one_stage bytes f g (misshapen field d e j bad) (unread e' never) n n' = absurd (never d j)
   one_stage bytes f g (misshapen field d e j bad) (misshapen field' d' e' j' bad') n n' =
-      e ∙ (ap (λ (x : Field). Shape x) (Some_inj field field' (sym bad ∙ (ap (λ (x : Data). first_failing (tests x)) (Some_inj d d' (sym j.1 ∙ j'.1)) ∙ bad'))) ∙ sym e')
+      e ∙ (ap (λ (x : Field). Shape x) (Some_inj field field' (sym bad ∙ (ap (λ (x : D). first_failing (tests x)) (one_read bytes d d' j j') ∙ bad'))) ∙ sym e')
   one_stage bytes f g (misshapen field d e j bad) (said d' s j' says k) n n' = absurd (no_shape bytes d' d s field j' j says bad)
   one_stage bytes f g (said d s j says h) (wanting e') n n' = absurd (n' e')
   one_stage bytes f g (said d s j says h) (unread e' never) n n' = absurd (never d j)
   one_stage bytes f g (said d s j says h) (misshapen field d' e' j' bad) n n' = absurd (no_shape bytes d d' s field j j' says bad)
   one_stage bytes f g (said d s j says h) (said d' t j' says' k) n n' = one_said bytes d d' s t f g j j' says says' h k n n'
 
-  pub one_fault : (bytes : List ℕ) (f g : JsonFault) → HasFault tests Says SaysFault bytes f → HasFault tests Says SaysFault bytes g → f ≢ NoMemory → g ≢ NoMemory → f ≡ g
+  pub one_fault : (bytes : List ℕ) (f g : JsonFault) → HasFault IsRead tests Says SaysFault bytes f → HasFault IsRead tests Says SaysFault bytes g → f ≢ NoMemory → g ≢ NoMemory → f ≡ g
   one_fault bytes f g h k n n' = one_stage bytes f g (stage bytes f h) (stage bytes g k) n n'
 
 pub machines : HasOneFault HasMachineFault
-machines = one_fault machine_tests SaysMachine SaysMachineFault machine_passes machine_same machine_one
+machines = one_fault IsJson machine_tests SaysMachine SaysMachineFault one_json machine_passes machine_same machine_one
 
 pub setups : HasOneFault HasSetupFault
-setups = one_fault setup_tests SaysSetup SaysSetupFault setup_passes (λ d v w s t. Some_inj v w (sym s ∙ t)) setup_one
+setups = one_fault IsJson setup_tests SaysSetup SaysSetupFault one_json setup_passes (λ d v w s t. Some_inj v w (sym s ∙ t)) setup_one
 
 pub all_answers : HasOneFault HasAnswersFault
-all_answers = one_fault answers_tests SaysAnswers SaysAnswersFault answers_passes answers_same answers_one
+all_answers = one_fault IsDocument answers_tests SaysAnswers SaysAnswersFault one_document answers_passes answers_same answers_one

@@ -8,7 +8,7 @@ use Rattle.lw_words.specs.Word.{IsNames, IsWholeKept}
 use Rattle.lw_words.specs.declared.kept.KeptAnswer.{KeptAnswer}
 use Rattle.lw_mealy.specs.Machine.{Rows}
 use Rattle.lw_json.specs.AnswersFault.{SaysAnswersFault, HasAnswersFault, answers_tests}
-use Rattle.lw_json.specs.Formats.{WrittenAnswer, WrittenAnswers, format_at, answers_in, SaysAnswers, SpellsAnswers, IsAnswersFile, numbered_answer, each_of, NamedRow, WrittenMachine, SaysMachine, SpellsMachine, IsMachineFile, AreInputs, numbered_cell, numbered_rows, IsJson, is_object, list_at, texts_at}
+use Rattle.lw_json.specs.Formats.{Document, whole, lines, IsDocument, WrittenAnswer, WrittenAnswers, format_at, answers_in, SaysAnswers, SpellsAnswers, IsAnswersFile, numbered_answer, each_of, NamedRow, WrittenMachine, SaysMachine, SpellsMachine, IsMachineFile, AreInputs, numbered_cell, numbered_rows, IsJson, is_object, list_at, texts_at}
 use Rattle.lw_json.specs.Fault.{HasFault, NoneIsFaulty, first_failing}
 use Rattle.lw_json.specs.MachineFault.{UnknownFirst, SaysMachineFault, HasMachineFault, machine_tests}
 use Rattle.lw_json.specs.SetupFile.{WrittenSetup, table, command, SaysSetup, SpellsSetup, IsSetupFile, SaysSetupFault, HasSetupFault, AreOutputs, DeclaredFault, has_member, text_at, command_at, outputs_at, setup_tests}
@@ -25,6 +25,7 @@ use Rattle.lw_words.specs.declared.names.NamesFault.{NamesFault}
 use Rattle.lw_json.proofs.MachineFaults.{known_row}
 use Rattle.lw_json.proofs.NoFault.{names_none, rows_none, each_some}
 use Rattle.lw_json.proofs.OneAnswers as answers
+use Rattle.lw_json.proofs.OneAnswers.{one_json}
 use Rattle.lw_json.proofs.OneValue as machine
 
 -- a machine that is said
@@ -125,26 +126,26 @@ module _ (w : WrittenAnswers) (a : Answers) (s : SpellsAnswers w a) where
   answers_none NoMemory h = refl
 
 -- bytes of the grammar, for each kind
-module _ {S V : Type 0} (tests : Data → List (Field × Bool)) (Says : Data → S → Type 0) (SaysFault : S → JsonFault → Type 0) (Spelt : S → V → Type 0) (passes : (d : Data) (s : S) → Says d s → first_failing (tests d) ≡ None)
-    (same : (d : Data) (s t : S) → Says d s → Says d t → s ≡ t) (none : (s : S) (v : V) → Spelt s v → (fault : JsonFault) → SaysFault s fault → fault ≡ NoMemory) where
+module _ {D S V : Type 0} (IsRead : List ℕ → D → Type 0) (tests : D → List (Field × Bool)) (Says : D → S → Type 0) (SaysFault : S → JsonFault → Type 0) (Spelt : S → V → Type 0) (one_read : (bytes : List ℕ) (d e : D) → IsRead bytes d → IsRead bytes e → d ≡ e)
+    (passes : (d : D) (s : S) → Says d s → first_failing (tests d) ≡ None) (same : (d : D) (s t : S) → Says d s → Says d t → s ≡ t) (none : (s : S) (v : V) → Spelt s v → (fault : JsonFault) → SaysFault s fault → fault ≡ NoMemory) where
   abbrev IsFile : List ℕ → V → Type 0
-  IsFile bytes v = (d : Data) × IsJson bytes d × ((s : S) × Says d s × Spelt s v)
+  IsFile bytes v = (d : D) × IsRead bytes d × ((s : S) × Says d s × Spelt s v)
 
   abbrev Said : List ℕ → JsonFault → Type 0
-  Said bytes fault = (d : Data) × IsJson bytes d × ((s : S) × Says d s × SaysFault s fault)
+  Said bytes fault = (d : D) × IsRead bytes d × ((s : S) × Says d s × SaysFault s fault)
 
   said_none : (bytes : List ℕ) (v : V) (fault : JsonFault) → IsFile bytes v → Said bytes fault → fault ≡ NoMemory
   said_none bytes v fault file h =
-      let here : file.0 ≡ h.0 = Some_inj file.0 h.0 (sym file.1.1 ∙ h.1.1) in
-      let there : Says h.0 file.2.0 = subst (λ (d : Data). Says d file.2.0) here file.2.1 in
+      let here : file.0 ≡ h.0 = one_read bytes file.0 h.0 file.1 h.1 in
+      let there : Says h.0 file.2.0 = subst (λ (d : D). Says d file.2.0) here file.2.1 in
       let one : file.2.0 ≡ h.2.0 = same h.0 file.2.0 h.2.0 there h.2.1 in
       none file.2.0 v file.2.2 fault (subst (λ (s : S). SaysFault s fault) (sym one) h.2.2)
 
-  pub file_none : (bytes : List ℕ) (v : V) (fault : JsonFault) → IsFile bytes v → HasFault tests Says SaysFault bytes fault → fault ≡ NoMemory
+  pub file_none : (bytes : List ℕ) (v : V) (fault : JsonFault) → IsFile bytes v → HasFault IsRead tests Says SaysFault bytes fault → fault ≡ NoMemory
   file_none bytes v NotJson file h = absurd (h file.0 file.1)
   file_none bytes v (Shape field) file h =
-      let here : file.0 ≡ h.0 = Some_inj file.0 h.0 (sym file.1.1 ∙ h.1.1) in
-      absurd (none-some field (sym (passes file.0 file.2.0 file.2.1) ∙ (ap (λ (d : Data). first_failing (tests d)) here ∙ h.2)))
+      let here : file.0 ≡ h.0 = one_read bytes file.0 h.0 file.1 h.1 in
+      absurd (none-some field (sym (passes file.0 file.2.0 file.2.1) ∙ (ap (λ (d : D). first_failing (tests d)) here ∙ h.2)))
   file_none bytes v (Inputs fault) file h = said_none bytes v (Inputs fault) file h
   file_none bytes v (Outputs fault) file h = said_none bytes v (Outputs fault) file h
   file_none bytes v (UnknownOutput q x) file h = said_none bytes v (UnknownOutput q x) file h
@@ -177,8 +178,9 @@ format_some : (f : Option ℕ) (g : ℕ → Option (List WrittenAnswer)) (l : Li
 format_some None g l e = absurd (none-some l e)
 format_some (Some n) g l e = refl
 
-pub answers_passes : (d : Data) (w : WrittenAnswers) → SaysAnswers d w → first_failing (answers_tests d) ≡ None
-answers_passes d w s =
+pub answers_passes : (d : Document) (w : WrittenAnswers) → SaysAnswers d w → first_failing (answers_tests d) ≡ None
+answers_passes (lines ds) w s = rw (s.inputs, s.answers) refl
+answers_passes (whole d) w s =
     rw (object_texts (codes "inputs") d w.inputs s.inputs, format_some (format_at d) (λ format. option_and_then (answers_in format) (list_at (codes "answers") d)) w.answers s.answers, s.inputs, s.outputs, s.answers) refl
 
 -- the tests of a setup, by what its members are
@@ -208,16 +210,16 @@ machine_same d v w s t =
     let same = machine.says_same d d v w refl s t in
     ap (λ (i : List (List ℕ)). said_as i v.outputs v.states) same.inputs ∙ (ap (λ (o : List (List ℕ)). said_as w.inputs o v.states) same.outputs ∙ ap (λ (r : List NamedRow). said_as w.inputs w.outputs r) same.states)
 
-pub answers_same : (d : Data) (v w : WrittenAnswers) → SaysAnswers d v → SaysAnswers d w → v ≡ w
+pub answers_same : (d : Document) (v w : WrittenAnswers) → SaysAnswers d v → SaysAnswers d w → v ≡ w
 answers_same d v w s t =
-    let same = answers.says_same d d v w refl s t in
+    let same = answers.says_same d v w s t in
     ap (λ (i : List (List ℕ)). answered_as i v.outputs v.answers) same.inputs ∙ (ap (λ (o : List (List ℕ)). answered_as w.inputs o v.answers) same.outputs ∙ ap (λ (l : List WrittenAnswer). answered_as w.inputs w.outputs l) same.answers)
 
 pub machines : NoneIsFaulty IsMachineFile HasMachineFault
-machines = file_none machine_tests SaysMachine SaysMachineFault SpellsMachine machine_passes machine_same machine_none
+machines = file_none IsJson machine_tests SaysMachine SaysMachineFault SpellsMachine one_json machine_passes machine_same machine_none
 
 pub setups : NoneIsFaulty IsSetupFile HasSetupFault
-setups = file_none setup_tests SaysSetup SaysSetupFault SpellsSetup setup_passes (λ d v w s t. Some_inj v w (sym s ∙ t)) setup_none
+setups = file_none IsJson setup_tests SaysSetup SaysSetupFault SpellsSetup one_json setup_passes (λ d v w s t. Some_inj v w (sym s ∙ t)) setup_none
 
 pub all_answers : NoneIsFaulty IsAnswersFile HasAnswersFault
-all_answers = file_none answers_tests SaysAnswers SaysAnswersFault SpellsAnswers answers_passes answers_same answers_none
+all_answers = file_none IsDocument answers_tests SaysAnswers SaysAnswersFault SpellsAnswers answers.one_document answers_passes answers_same answers_none

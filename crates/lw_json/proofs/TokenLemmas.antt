@@ -1,18 +1,19 @@
 -- Values that are put to a writer of JSON token by token are written as the library writes them.
-use Rattle.std.proofs.Common.{◌≡◌, ℕ, ◌<◌, ◌≤◌, ◌^◌, List, [], ◌∷◌, ◌++◌, Option, Some, codes, decimal, option_map, option_and_then, refl, sym, ap, ap₂, ◌∙◌, arith, append_assoc, append-nil}
+use Rattle.std.proofs.Common.{◌≡◌, ℕ, ◌<◌, ◌≤◌, ◌^◌, List, [], ◌∷◌, ◌++◌, false, Option, Some, codes, decimal, option_map, option_and_then, refl, sym, ap, ap₂, ◌∙◌, arith, append_assoc, append-nil}
 use Rattle.json.specs.Token.{Token, begin_array, begin_object, end_array, end_object, key, number, string}
 use Rattle.json.specs.Json as json
 use Rattle.json.specs.Lex.{tokens}
+use Rattle.json.specs.Print.{print}
 use Rattle.json.specs.Tree as tree
 use Rattle.json.proofs.Printed.Trees.{value-json_tokens}
 use Rattle.serde_json.specs.Data.{Data, Items, depth, item, member, no_items, no_members, unsigned, array, object}
 use Rattle.serde_json.specs.Data as value
 use Rattle.serde_json.specs.Read.{max_depth, of_items, of_json, read}
 use Rattle.serde_json.specs.View.{items_of}
-use Rattle.serde_json.specs.Written.{WritesItems, WritesValue, unless_float}
+use Rattle.serde_json.specs.Written.{IsInOrder, WritesItems, WritesValue, compact_text, has_float, unless_float}
 use Rattle.serde_json.proofs.Numbers.{number_of-decimal}
 use Rattle.serde_json.proofs.OnLiterals.{serde_json_on_literals}
-use Rattle.serde_json.proofs.Texts.{unless_float-number_of}
+use Rattle.serde_json.proofs.Texts.{print-outline, tokens_from_order, unless_float-number_of}
 
 -- what stands behind something that stands behind the start
 pub behind : {T : Type 0} (start first now then end : List T) → now ≡ start ++ first → end ≡ now ++ then → end ≡ start ++ (first ++ then)
@@ -88,6 +89,32 @@ writes_file list ins outs a b c d e f g h i j k opened first l second two third 
       omega (arith, l.3, m.3, n.3),
       rw (l.4, plain_number 2 small, m.4, n.4) refl,
     )
+
+-- the members of a journal's head, each behind its key
+pub writes_head : (ins : Data) (a b c d e f g : List Token)
+    → b ≡ a ++ begin_object ∷ [] → c ≡ b ++ key (codes "format") ∷ [] → d ≡ c ++ number (decimal 3) ∷ []
+    → e ≡ d ++ key (codes "inputs") ∷ [] → WritesValue ins e f
+    → g ≡ f ++ end_object ∷ []
+    → WritesValue (object (member (codes "format") (value.number (unsigned 3)) (member (codes "inputs") ins no_members))) a g
+unfolding serde_json_on_literals
+writes_head ins a b c d e f g opened first three second m closed =
+    let small : 3 < 2 ^ 64 = omega arith in
+    let from_e = behind e (tree.json_tokens m.0) f (end_object ∷ []) g m.1 closed in
+    let from_d = behind d (key (codes "inputs") ∷ []) e _ g second from_e in
+    let from_c = behind c (number (decimal 3) ∷ []) d _ g three from_d in
+    let from_b = behind b (key (codes "format") ∷ []) c _ g first from_c in (
+      json.object (json.member (codes "format") (json.number (decimal 3)) (json.member (codes "inputs") m.0 json.no_members)),
+      behind a (begin_object ∷ []) b _ g opened from_b,
+      rw (number_of-decimal 3 small, m.2) refl,
+      omega (arith, m.3),
+      rw (plain_number 3 small, m.4) refl,
+    )
+
+-- the text of a value's tokens, which has no float, is the compact one
+pub compact_made : (d : Data) (ts : List Token) (made : List ℕ) → WritesValue d [] ts → made ≡ print ts → tokens made ≡ ts → has_float d ≡ false → made ≡ compact_text d
+compact_made d ts made w text same none =
+    let order : IsInOrder made d = (w.0, same ∙ w.1, w.4) in
+    text ∙ ap print (sym same) ∙ ap print (tokens_from_order made d order none) ∙ print-outline d
 
 -- what is read of tokens
 whole : Option (json.Json × List Token) → Option Data

@@ -26,9 +26,12 @@ pub record IsWrittenOrder (xs ys : List KeptAnswer) : Type 0 where
 abbrev pub HaveOneOrder : Type 0
 HaveOneOrder = (xs ys zs : List KeptAnswer) → IsWrittenOrder xs ys → IsWrittenOrder xs zs → ys ≡ zs
 
--- an answer: the instance, the run and the two texts
+-- an answer: the instance, the run and the two texts, in a list
+abbrev pub run_data : ℕ → ℕ → List ℕ → List ℕ → Data
+run_data instance run word outs = array (items_of (number (unsigned instance) ∷ number (unsigned run) ∷ string word ∷ string outs ∷ []))
+
 abbrev pub answer_data : List (List ℕ) → List (List ℕ) → KeptAnswer → Data
-answer_data inputs outputs k = array (items_of (number (unsigned k.instance) ∷ number (unsigned k.run) ∷ string (word_text inputs k.word) ∷ string (word_text outputs k.outs) ∷ []))
+answer_data inputs outputs k = run_data k.instance k.run (word_text inputs k.word) (word_text outputs k.outs)
 
 abbrev pub list_data : List (List ℕ) → List (List ℕ) → List KeptAnswer → Data
 list_data inputs outputs ks = array (items_of (map (answer_data inputs outputs) ks))

@@ -1,10 +1,8 @@
 -- The first fault of a file, for each kind of file.
 use Rattle.std.specs.Prelude.{◌≡◌, ◌≢◌, ℕ, List, [], ◌∷◌, Bool, Option, Some, None, if◌then◌else◌}
-use Rattle.serde_json.specs.Data.{Data}
 use Rattle.lw_words.specs.Name as names
 use Rattle.lw_words.specs.declared.names.NamesFault.{NamesFault}
 use Rattle.lw_words.specs.declared.names.NamesFault.TheVariants as names_fault
-use Rattle.lw_json.specs.Formats.{IsJson}
 use Rattle.lw_json.specs.declared.fault.Field.{Field}
 use Rattle.lw_json.specs.declared.fault.JsonFault.{JsonFault}
 use Rattle.lw_json.specs.declared.fault.JsonFault.TheVariants.{NotJson, Shape, Inputs, Outputs, UnknownOutput, Mealy, BadWord, Lengths, NoMemory}
@@ -18,15 +16,15 @@ first_failing (t ∷ ts) = if t.1 then first_failing ts else Some t.0
 abbrev pub IsFaultOf : ℕ → List (List ℕ) → NamesFault → Type 0
 IsFaultOf limit list fault = names.HasFault limit list fault × (fault ≢ names_fault.NoMemory)
 
--- the first fault of bytes: they are no JSON; else a test of the members' shapes fails; else what the members say has the fault.
+-- the first fault of bytes: nothing is read of them; else a test of the shapes of what is read fails; else what it says has the fault.
 -- Out of memory may come in place of any answer.
-module _ {S : Type 0} (tests : Data → List (Field × Bool)) (Says : Data → S → Type 0) (SaysFault : S → JsonFault → Type 0) where
+module _ {D S : Type 0} (IsRead : List ℕ → D → Type 0) (tests : D → List (Field × Bool)) (Says : D → S → Type 0) (SaysFault : S → JsonFault → Type 0) where
   abbrev SaidFault : List ℕ → JsonFault → Type 0
-  SaidFault bytes fault = (d : Data) × IsJson bytes d × ((s : S) × Says d s × SaysFault s fault)
+  SaidFault bytes fault = (d : D) × IsRead bytes d × ((s : S) × Says d s × SaysFault s fault)
 
   abbrev pub HasFault : List ℕ → JsonFault → Type 0
-  HasFault bytes NotJson = (d : Data) → ¬ IsJson bytes d
-  HasFault bytes (Shape field) = (d : Data) × IsJson bytes d × (first_failing (tests d) ≡ Some field)
+  HasFault bytes NotJson = (d : D) → ¬ IsRead bytes d
+  HasFault bytes (Shape field) = (d : D) × IsRead bytes d × (first_failing (tests d) ≡ Some field)
   HasFault bytes (Inputs fault) = SaidFault bytes (Inputs fault)
   HasFault bytes (Outputs fault) = SaidFault bytes (Outputs fault)
   HasFault bytes (UnknownOutput state letter) = SaidFault bytes (UnknownOutput state letter)

@@ -1,13 +1,15 @@
 -- The grammar of machine files and of answers files, over serde_json's reading of JSON (RFC 8259).
-use Rattle.std.specs.Prelude.{List, [], ◌∷◌, Option, Some, option_map, option_and_then, ◌≡◌, ℕ, Bool, is_some, IsUtf8, ◌==◌, codes, ◌≤◌, length, None, nat_lt, if◌then◌else◌, ◌+◌, ◌||◌}
+use Rattle.std.specs.Prelude.{List, [], ◌∷◌, Option, Some, option_map, option_and_then, ◌≡◌, ℕ, Bool, true, false, not, is_some, IsUtf8, ◌==◌, codes, ◌≤◌, length, None, nat_lt, if◌then◌else◌, ◌+◌, ◌||◌}
 use Rattle.serde_json.specs.Data.{Data, Items, no_items, item}
 use Rattle.serde_json.specs.Find.{get, as_array, as_object, as_str, as_number, as_u64}
 use Rattle.serde_json.specs.Read.{read}
-use Rattle.std.specs.List.{slice_split, All}
+use Rattle.std.specs.List.{slice_split, All, filter, filter_map, flat_map, last_or}
+use Rattle.std.specs.Str.{bytes_eq, is_utf8}
 use Rattle.lw_words.specs.Word.{number_of, IsNames, IsWholeKept}
 use Rattle.lw_mealy.specs.Machine.{Rows, IsWithinLimits}
 use Rattle.lw_json.specs.declared.files.Machine.{Machine}
 use Rattle.lw_words.specs.declared.kept.KeptAnswer.{KeptAnswer}
+use Rattle.lw_json.specs.Journal.{is_journal}
 use Rattle.lw_json.specs.declared.files.Answers.{Answers}
 
 -- A function that may fail, at each element of a list.
@@ -44,10 +46,14 @@ texts_at key d = option_and_then (each_of as_str) (list_at key d)
 
 -- Words as texts: the names of their letters, joined by one blank each.
 
--- the word of a text: none for no text, else the numbers of the names between the blanks, where each is a name
+-- the names of a text: none of no text, else what stands between the blanks
+abbrev pub names_of_text : List ℕ → List (List ℕ)
+names_of_text [] = []
+names_of_text (b ∷ text) = slice_split (λ c. c == 32) (b ∷ text)
+
+-- the word of a text: the numbers of its names, where each has one
 abbrev pub word_of : List (List ℕ) → List ℕ → Option (List ℕ)
-word_of names [] = Some []
-word_of names (b ∷ text) = each_of (λ name. number_of name names) (slice_split (λ c. c == 32) (b ∷ text))
+word_of names text = each_of (λ name. number_of name names) (names_of_text text)
 
 -- Machine files.
 
@@ -124,7 +130,7 @@ pub record SameMachine (m n : Machine) : Type 0 where
   pub outputs : m.outputs ≡ n.outputs
   pub mealy : m.mealy ≡ n.mealy
 
--- Answers files, in both formats.
+-- Answers files, in formats 1 and 2.
 
 -- an answer as it is written
 pub record WrittenAnswer : Type 0 where
@@ -190,10 +196,58 @@ pub record WrittenAnswers : Type 0 where
   pub answers : List WrittenAnswer
 
 -- the members have their shapes, and say this; other members are ignored
-pub record SaysAnswers (d : Data) (w : WrittenAnswers) : Type 0 where
+pub record SaysMembers (d : Data) (w : WrittenAnswers) : Type 0 where
   pub inputs : texts_at (codes "inputs") d ≡ Some w.inputs
   pub outputs : texts_at (codes "outputs") d ≡ Some w.outputs
   pub answers : answers_at d ≡ Some w.answers
+
+-- Journals, which are answers files in format 3: of the lines that are JSON, the objects are heads and the others runs.
+
+-- the value that bytes are in JSON, where they are
+unfoldable pub json_in : List ℕ → Option Data
+json_in bytes = if is_utf8 bytes then read bytes else None
+
+-- the values of the lines; a line that is no JSON is passed over
+abbrev pub line_values : List ℕ → List Data
+line_values bytes = filter_map json_in (slice_split (λ b. b == 10) bytes)
+
+-- the inputs of the last head
+abbrev pub last_inputs : List Data → Option (List (List ℕ))
+last_inputs ds = option_and_then (texts_at (codes "inputs")) (last_or None (filter is_object ds))
+
+-- the answers of the runs, which have the shape of format 2
+abbrev pub run_answers : List Data → Option (List WrittenAnswer)
+run_answers ds = each_of written_answer_of (filter (λ d. not (is_object d)) ds)
+
+-- each text once, where it first stands
+abbrev pub without_repeats : List (List ℕ) → List (List ℕ)
+without_repeats [] = []
+without_repeats (x ∷ xs) = x ∷ filter (λ y. not (bytes_eq y x)) (without_repeats xs)
+
+-- the names in the outputs of answers, in the order in which they first appear
+abbrev pub journal_outputs : List WrittenAnswer → List (List ℕ)
+journal_outputs answers = without_repeats (flat_map (λ a. names_of_text a.outs) answers)
+
+-- the last head and the runs have their shapes, and say this; other heads are ignored
+pub record SaysLines (ds : List Data) (w : WrittenAnswers) : Type 0 where
+  pub inputs : last_inputs ds ≡ Some w.inputs
+  pub outputs : journal_outputs w.answers ≡ w.outputs
+  pub answers : run_answers ds ≡ Some w.answers
+
+-- Answers files, in all formats.
+
+-- what is read: one value, or the values of a journal's lines
+pub data Document : Type 0 where
+  whole : Data → Document
+  lines : List Data → Document
+
+abbrev pub IsDocument : List ℕ → Document → Type 0
+IsDocument bytes (whole d) = (is_journal bytes ≡ false) × IsJson bytes d
+IsDocument bytes (lines ds) = (is_journal bytes ≡ true) × (line_values bytes ≡ ds)
+
+abbrev pub SaysAnswers : Document → WrittenAnswers → Type 0
+SaysAnswers (whole d) w = SaysMembers d w
+SaysAnswers (lines ds) w = SaysLines ds w
 
 -- an answer with the words of its texts, where both are words
 abbrev pub numbered_answer : List (List ℕ) → List (List ℕ) → WrittenAnswer → Option KeptAnswer
@@ -211,7 +265,7 @@ pub record SpellsAnswers (w : WrittenAnswers) (a : Answers) : Type 0 where
 
 -- the bytes are an answers file, and these are the answers
 abbrev pub IsAnswersFile : List ℕ → Answers → Type 0
-IsAnswersFile bytes a = (d : Data) × IsJson bytes d × ((w : WrittenAnswers) × SaysAnswers d w × SpellsAnswers w a)
+IsAnswersFile bytes a = (d : Document) × IsDocument bytes d × ((w : WrittenAnswers) × SaysAnswers d w × SpellsAnswers w a)
 
 -- the names and the recorded answers are the same, in the same order
 pub record SameAnswers (a b : Answers) : Type 0 where

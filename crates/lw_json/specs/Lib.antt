@@ -4,6 +4,8 @@ pub mod Fault
 pub mod FitNames
 pub mod Formats
 pub mod Hint
+pub mod Journal
+pub mod JournalText
 pub mod KeptOver
 pub mod MachineFault
 pub mod MachineText

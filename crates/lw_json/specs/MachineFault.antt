@@ -8,7 +8,7 @@ use Rattle.lw_mealy.specs.Fault as mealy
 use Rattle.lw_mealy.specs.Machine.{Rows}
 use Rattle.lw_mealy.specs.declared.fault.MealyFault.TheVariants as mealy_fault
 use Rattle.lw_json.specs.Fault.{IsFaultOf, HasFault}
-use Rattle.lw_json.specs.Formats.{is_object, texts_at, NamedRow, WrittenMachine, SaysMachine, AreInputs, rows_at, numbered_rows}
+use Rattle.lw_json.specs.Formats.{IsJson, is_object, texts_at, NamedRow, WrittenMachine, SaysMachine, AreInputs, rows_at, numbered_rows}
 use Rattle.lw_json.specs.declared.fault.Field.{Field}
 use Rattle.lw_json.specs.declared.fault.Field.TheVariants as field
 use Rattle.lw_json.specs.declared.fault.JsonFault.{JsonFault}
@@ -46,7 +46,7 @@ SaysMachineFault w (Lengths place) = ⊥
 SaysMachineFault w NoMemory = Unit {0}
 
 abbrev pub HasMachineFault : List ℕ → JsonFault → Type 0
-HasMachineFault bytes fault = HasFault machine_tests SaysMachine SaysMachineFault bytes fault
+HasMachineFault bytes fault = HasFault IsJson machine_tests SaysMachine SaysMachineFault bytes fault
 
 -- bytes that are no machine file have this fault first
 abbrev pub IsMachineFault : List ℕ → JsonFault → Type 0

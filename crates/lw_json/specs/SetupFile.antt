@@ -104,7 +104,7 @@ SaysSetupFault w (Lengths place) = ⊥
 SaysSetupFault w NoMemory = Unit {0}
 
 abbrev pub HasSetupFault : List ℕ → JsonFault → Type 0
-HasSetupFault bytes fault = HasFault setup_tests SaysSetup SaysSetupFault bytes fault
+HasSetupFault bytes fault = HasFault IsJson setup_tests SaysSetup SaysSetupFault bytes fault
 
 -- bytes that are no setup file have this fault first
 abbrev pub IsSetupFault : List ℕ → JsonFault → Type 0

@@ -1,4 +1,4 @@
-//! Reads the shapes of the answers of a file, in both formats.
+//! Reads the shapes of the answers of a file, in formats 1 and 2.
 
 ghost use Rattle.std.specs.Prelude.{◌≡◌, ◌≤◌, IfOk, IfSome, Some, map, option_map};
 ghost use Rattle.serde_json.specs.View.{view};
@@ -57,8 +57,8 @@ fn instance(value: &Value) -> Option<u32>
     }
 }
 
-/// An answer in format 2.
-fn answer<'a>(value: &'a Value) -> Option<SaidAnswer<'a>>
+/// An answer in format 2, which is a run of a journal.
+pub fn answer<'a>(value: &'a Value) -> Option<SaidAnswer<'a>>
     ensures { option_map said_answer result ≡ written_answer_of (view value.now) }
 {
     let [origin, run, word, outs] = list(value)?.as_slice() else {

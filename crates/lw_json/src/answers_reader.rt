@@ -1,11 +1,12 @@
-//! Reads answers files: the shapes of the members, then the names, then the words.
+//! Reads answers files: the shapes of what they say, then the names, then the words.
 
-ghost use Rattle.std.specs.Prelude.{◌≡◌, IfOk, IfErr, IfSome, IfNone, Some, map};
+ghost use Rattle.std.specs.Prelude.{◌≡◌, true, false, IfOk, IfErr, IfSome, IfNone, Some, map};
 ghost use Rattle.std.specs.List.{All};
 ghost use Rattle.serde_json.specs.View.{view};
 ghost use Rattle.lw_words.specs.First.{FailsFirst};
 ghost use Rattle.lw_words.specs.Word.{IsNames, IsWholeKept};
-ghost use Rattle.lw_json.specs.Formats.{numbered_answer, SaysAnswers, SpellsAnswers, IsAnswersFile, SameAnswers, each_of, AreInputs};
+ghost use Rattle.lw_json.specs.Formats.{numbered_answer, SaysAnswers, SpellsAnswers, IsAnswersFile, SameAnswers, each_of, whole, AreInputs};
+ghost use Rattle.lw_json.specs.Journal.{is_journal};
 ghost use Rattle.lw_json.specs.AnswersFault.{answers_tests, AnswerHasWords, SaysAnswersFault, HasAnswersFault};
 ghost use Rattle.lw_json.specs.Fault.{first_failing};
 ghost use Rattle.lw_json.specs.bodies.AnswersParts.{said_answer, said_answers, written};
@@ -14,26 +15,20 @@ ghost use Rattle.lw_json.specs.declared.files.Answers.{Answers as Read};
 ghost use Rattle.lw_json.specs.declared.fault.JsonFault.{JsonFault as Fault};
 
 use crate::answer_shapes::{answers_member, format};
+use crate::journal::is_journal;
+use crate::journal_reader::{journal_said, journal_values};
 use crate::members::{inputs_of, outputs_of, texts_member, value_of};
-use crate::said_answer::SaidAnswer;
+use crate::said_answer::{Said, SaidAnswer};
 use crate::word_reader::read_word;
 use crate::{Answers, Field, JsonFault};
 use lw_words::{Kept, KeptAnswer, Names, NoMemory};
 use serde_json::Value;
 use std::alloc::Global;
 
-/// What an answers file says, before its names are looked at.
-#[derive(Drop)]
-struct Said<'a> {
-    inputs: Vec<String>,
-    outputs: Vec<String>,
-    answers: Vec<SaidAnswer<'a>>,
-}
-
 /// What the members say, where they have their shapes.
 fn members_of<'a>(alloc: Global, root: &'a Value) -> Result<Said<'a>, JsonFault>
-    ensures ok { IfOk result (λ s. SaysAnswers (view root.now) (said_answers s)) }
-    ensures err { IfErr result (IsMisshapen (answers_tests (view root.now))) }
+    ensures ok { IfOk result (λ s. SaysAnswers (whole (view root.now)) (said_answers s)) }
+    ensures err { IfErr result (IsMisshapen (answers_tests (whole (view root.now)))) }
 {
     if !root.is_object() {
         return Err(JsonFault::Shape(Field::Root));
@@ -158,14 +153,39 @@ fn answers_of(alloc: Global, said: &Said<'_>) -> Result<Answers, JsonFault>
     })
 }
 
-/// Reads an answers file: an object with `format`, 1 or 2, `inputs` and `outputs`, lists of names, and `answers`,
-/// a list that has for each answer its two texts, in format 2 after its instance and its run.
-pub fn read_answers(alloc: Global, bytes: &[u8]) -> Result<Answers, JsonFault>
+/// Reads an answers file in format 1 or 2: an object with `format`, `inputs` and `outputs`, lists of names, and
+/// `answers`, a list that has for each answer its two texts, in format 2 after its instance and its run.
+fn read_whole(alloc: Global, bytes: &[u8]) -> Result<Answers, JsonFault>
+    requires { is_journal bytes.now ≡ false }
     ensures ok { IfOk result (IsAnswersFile bytes.now) }
-    ensures only { IfOk result (λ a. (b : Read) → IsAnswersFile bytes.now b → SameAnswers b a) }
     ensures err { IfErr result (HasAnswersFault bytes.now) }
 {
     let root = value_of(alloc, bytes)?;
     let said = members_of(alloc, &root)?;
     answers_of(alloc, &said)
+}
+
+/// Reads a journal: lines of JSON, of which the objects are heads with the `inputs` and the others runs, each an
+/// answer as in format 2.
+fn read_lines(alloc: Global, bytes: &[u8]) -> Result<Answers, JsonFault>
+    requires { is_journal bytes.now ≡ true }
+    ensures ok { IfOk result (IsAnswersFile bytes.now) }
+    ensures err { IfErr result (HasAnswersFault bytes.now) }
+{
+    let values = journal_values(alloc, bytes)?;
+    let said = journal_said(alloc, &values)?;
+    answers_of(alloc, &said)
+}
+
+/// Reads an answers file, in format 1 or 2 or as a journal.
+pub fn read_answers(alloc: Global, bytes: &[u8]) -> Result<Answers, JsonFault>
+    ensures ok { IfOk result (IsAnswersFile bytes.now) }
+    ensures only { IfOk result (λ a. (b : Read) → IsAnswersFile bytes.now b → SameAnswers b a) }
+    ensures err { IfErr result (HasAnswersFault bytes.now) }
+{
+    if is_journal(bytes) {
+        read_lines(alloc, bytes)
+    } else {
+        read_whole(alloc, bytes)
+    }
 }

@@ -67,7 +67,7 @@ fn put_list(
 }
 
 /// Puts the names as a list of texts.
-fn put_names(out: &mut Writer, names: &Names) -> Result<(), NoMemory>
+pub(crate) fn put_names(out: &mut Writer, names: &Names) -> Result<(), NoMemory>
     ensures value { OnOk result (Puts (texts_data names.now) out.old out.new) }
     ensures names { OnOk result (IsNames names.now) }
 {
@@ -88,7 +88,8 @@ fn put_file(
     outputs: &Names,
 ) -> Result<(), NoMemory>
     ensures value { OnOk result
-        (Puts (answers_data inputs.now outputs.now (map (λ k. k.now) answers.now)) out.old out.new) }
+        (Puts (answers_data inputs.now outputs.now (map (λ k. k.now) answers.now))
+        out.old out.new) }
     ensures inputs { OnOk result (IsNames inputs.now) }
     ensures outputs { OnOk result (IsNames outputs.now) }
 {

@@ -1,4 +1,4 @@
-//! An answer as it is written.
+//! An answer as it is written, and all that an answers file says.
 
 ghost use Rattle.std.specs.Prelude.{◌≤◌};
 
@@ -10,4 +10,12 @@ pub struct SaidAnswer<'a> {
     pub word: &'a str,
     pub outs: &'a str,
     pub ghost known: { instance ≤ 16 },
+}
+
+/// What an answers file says, before its names are looked at.
+#[derive(Drop)]
+pub struct Said<'a> {
+    pub inputs: Vec<String>,
+    pub outputs: Vec<String>,
+    pub answers: Vec<SaidAnswer<'a>>,
 }

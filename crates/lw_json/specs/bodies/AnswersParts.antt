@@ -1,7 +1,7 @@
 -- What the parts of the reader of answers files find.
 use Rattle.std.specs.Prelude.{ℕ, List, map, string_bytes}
 use Rattle.lw_json.specs.Formats.{WrittenAnswer, WrittenAnswers}
-use Rattle.lw_json.specs.declared.answers_reader.Said.{Said}
+use Rattle.lw_json.specs.declared.said_answer.Said.{Said}
 use Rattle.lw_json.specs.declared.said_answer.SaidAnswer.{SaidAnswer}
 
 abbrev pub said_answer : SaidAnswer → WrittenAnswer

@@ -1,4 +1,4 @@
-use Rattle.std.proofs.Common.{◌≡◌, ◌∙◌, ◌++◌, ◌∷◌, [], ap, sym, subst, List, ℕ, Some, map, length, refl}
+use Rattle.std.proofs.Common.{◌≡◌, ◌∙◌, ◌++◌, ◌∷◌, [], ap, sym, subst, List, ℕ, Some, false, map, length, refl}
 use Rattle.std.specs.Str.{IsUtf8}
 use Rattle.std.proofs.lemmas.List.Sorted.{All-permutation}
 use Rattle.std.proofs.lemmas.Str.{IsUtf8-append}
@@ -6,8 +6,10 @@ use Rattle.json.proofs.Printed.Utf8.{IsUtf8-are_ascii}
 use Rattle.serde_json.specs.Read.{read}
 use Rattle.lw_words.specs.declared.kept.KeptAnswer.{KeptAnswer}
 use Rattle.lw_json.specs.AnswersText.{IsWrittenOrder, answers_data}
+use Rattle.lw_json.specs.Formats.{whole}
+use Rattle.lw_json.specs.Journal.{is_journal}
 use Rattle.lw_json.specs.KeptOver.{IsKeptOver, AreKeptOver}
-use Rattle.lw_json.proofs.AnswersRoundTrip.{written_of, says_it, spelled}
+use Rattle.lw_json.proofs.AnswersRoundTrip.{no_journal, written_of, says_it, spelled}
 use Rattle.lw_json.proofs.LineFeed.{read-line_feed}
 use Rattle.lw_json.proofs.answers_writer.answers_text.Goals as goal
 
@@ -35,9 +37,10 @@ returns-clause-read_back c a in_is out_is order' =
     let is = c.in_ok-text.ensures.text in
     let written : c.push.new.self.items ≡ made ++ 10 ∷ [] = c.in_ok-push.ensures.items in
     let back : read c.push.new.self.items ≡ Some d = ap read written ∙ (read-line_feed made d is.printed is.order ∙ is.read) in
+    let other : is_journal c.push.new.self.items ≡ false = ap is_journal (written ∙ ap (λ (t : List ℕ). t ++ 10 ∷ []) is.compact) ∙ no_journal inputs outputs ys in
     let utf8 : IsUtf8 c.push.new.self.items = subst IsUtf8 (sym written) (IsUtf8-append made (10 ∷ []) is.utf8 (IsUtf8-are_ascii (10 ∷ []) refl)) in (
-      d,
-      (utf8, back),
+      whole d,
+      (other, (utf8, back)),
       (
         written_of inputs outputs ys,
         says_it inputs outputs ys over,
