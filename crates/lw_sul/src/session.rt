@@ -262,6 +262,8 @@ impl<S: Sul> Session<S> {
             return Err(RunStop::Sul(stop));
         }
         let outs = Word::from_letters(self.alloc, outs);
+        let (alloc, instance, run) = (self.alloc, self.instance, self.runs);
+        self.sul.keep(alloc, instance, run, w, &outs);
         self.journal = self.journal.and(w, &outs);
         self.runs += 1;
         let names = Named::from_names(names);

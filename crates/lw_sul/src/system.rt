@@ -1,15 +1,17 @@
 //! Systems that can only be reset and stepped.
 ghost use Rattle.std.specs.Prelude.{◌≡◌, ◌<◌, length, true, None};
 ghost use Rattle.lw_names.specs.Names.{AreNamed};
-ghost use Rattle.lw_words.specs.Word.{name_at};
+ghost use Rattle.std.specs.List.{All};
+ghost use Rattle.lw_words.specs.Word.{IsWord, name_at};
 ghost use Rattle.lw_sul.specs.System.{SulState, SulReset, SulStep};
 
 use lw_names::OutName;
-use lw_words::SulStop;
+use lw_words::{SulStop, Word};
+use std::alloc::Global;
 
 /// A system that can only be reset and stepped. It may be a table, or a program that runs elsewhere.
 ///
-/// A refused call stops the system: no call may follow it. No call takes memory.
+/// A refused call stops the system: no call may follow it. No call but `keep` takes memory.
 pub trait Sul {
     ghost state: { Self → SulState };
 
@@ -47,4 +49,18 @@ pub trait Sul {
         requires begun { (state self.old).started ≡ true }
         requires letter { x < (state self.old).inputs }
         ensures { SulStep x (state self.old) (state self.new) result };
+
+    /// Hands on a finished run of a session, to be written where the system has a journal. Nothing that the system tells changes by
+    /// it, and a line that can't be written is told by whom the journal is of.
+    fn keep(&mut self, alloc: Global, instance: u32, run: u64, word: &Word, outs: &Word)
+        requires letters { IsWord (state self.old).inputs word.now }
+        requires named { All (λ y. y < length (state self.old).names) outs.now }
+        ensures { state self.new ≡ state self.old }
+    {
+        let _ = alloc;
+        let _ = instance;
+        let _ = run;
+        let _ = word;
+        let _ = outs;
+    }
 }
