@@ -3,6 +3,7 @@
 
 mod exchange;
 mod inbox;
+mod journal;
 mod note;
 mod outputs;
 mod sent_line;

@@ -8,12 +8,13 @@ ghost use Rattle.lw_sul.specs.SessionState.{NoRuns};
 
 use crate::exchange::{ask, start};
 use crate::inbox::Inbox;
+use crate::journal::run_line;
 use crate::note::{Note, Received, line_naming};
 use crate::outputs::OutputNames;
 use lw_names::OutName;
 use lw_outside::Link;
 use lw_sul::Sul;
-use lw_words::{Line, Names, NoMemory, SulStop};
+use lw_words::{Line, Names, NoMemory, SulStop, Word};
 use std::alloc::Global;
 use std::marker::Model;
 
@@ -237,6 +238,18 @@ impl<L: Link> Sul for LineSul<L> {
                 self.cut = true;
                 Err(stop)
             }
+        }
+    }
+
+    /// Makes the line of the run only where the link has a journal.
+    fn keep(&mut self, alloc: Global, instance: u32, run: u64, word: &Word, outs: &Word) {
+        if !self.link.has_journal() {
+            return;
+        }
+        let (letters, outputs) = (&self.letters, &self.outputs);
+        match run_line(alloc, instance, run, letters, word, outputs, outs) {
+            Ok(line) => self.link.append_run(Some(line.as_slice())),
+            Err(NoMemory) => self.link.append_run(None),
         }
     }
 }
