@@ -7,7 +7,7 @@ use Rattle.lw_json.specs.Formats.{IsAnswersFile, SameAnswers, SameMachine}
 use Rattle.lw_json.specs.declared.files.Answers.{Answers}
 use Rattle.lw_json.specs.declared.files.Machine.{Machine}
 use Rattle.lw_json.proofs.OneAnswers.{one_answers}
-use Rattle.lw_outside.specs.Files.{File, Holds, HoldsLong, file_at, FilesState}
+use Rattle.lw_outside.specs.Files.{File, Holds, HoldsLong, file_at, longest_of, FilesState}
 use Rattle.lw_chunks.specs.declared.method.Method.{Method}
 use Rattle.lw_certify.proofs.SureLemmas.{sure_is_sure}
 use Rattle.lw_report.specs.Outcomes.{HasOwnText, StandsOrWants}
@@ -121,7 +121,7 @@ module _ {V : Type 0} (IsFile : List ℕ → V → Type 0) (name : List ℕ) (v 
       let e : h.0 ≡ t.0 = told_bytes fs name t.0 h.0 t.1 h.1 in
       let long = h.2 in
       let short = t.2 in
-      absurd (omega (arith, ap (λ (b : List ℕ). length b) e))
+      absurd (omega (arith, ap (λ (b : List ℕ). length b) e, ap longest_of e))
 
   told_file : (holds : Option (List File)) (bytes : List ℕ) → TellsFile IsFile holds name v → Holds holds name bytes → IsFile bytes v
   told_file None bytes t h = absurd t

@@ -5,7 +5,7 @@ use Rattle.lw_json.specs.MachineFault.{IsMachineFault}
 use Rattle.lw_json.specs.Formats.{IsMachineFile}
 use Rattle.lw_json.specs.declared.files.Machine.{Machine}
 use Rattle.lw_json.specs.declared.fault.JsonFault.{JsonFault}
-use Rattle.lw_outside.specs.Files.{File, Holds, HoldsLong, file_at, longest_file, FilesState, ReadsFile}
+use Rattle.lw_outside.specs.Files.{File, Holds, HoldsLong, file_at, longest_of, FilesState, ReadsFile}
 use Rattle.lw_report.specs.Outcomes.{HasOwnText, StandsOrWants}
 use Rattle.lw_system.specs.Reading.{ReadsBadFile}
 use Rattle.lw_report.specs.Stops.{read_outcome}
@@ -34,19 +34,19 @@ module _ (name : List ℕ) where
   model_not_long (Some fs) m told long =
       let short = told.2 in
       let more = long.2 in
-      let same = ap (λ (b : List ℕ). length b) (same_bytes (file_at name fs) told.0 long.0 told.1 long.1) in
-      absurd (omega (arith, short, more, same))
+      let same = same_bytes (file_at name fs) told.0 long.0 told.1 long.1 in
+      absurd (omega (arith, short, more, ap (λ (b : List ℕ). length b) same, ap longest_of same))
 
   pub told_file : (holds : Option (List File)) (m : Machine) (bytes : List ℕ) → TellsModel holds name m → Holds holds name bytes → IsMachineFile bytes m
   told_file None m bytes told held = absurd told
   told_file (Some fs) m bytes told held = subst (λ (b : List ℕ). IsMachineFile b m) (same_bytes (file_at name fs) told.0 bytes told.1 held) told.3
 
-  pub no_model_read : (holds : Option (List File)) (m : Machine) (bytes : List ℕ) → TellsNoModel holds name → Holds holds name bytes → length bytes ≤ longest_file → IsMachineFile bytes m → ⊥
+  pub no_model_read : (holds : Option (List File)) (m : Machine) (bytes : List ℕ) → TellsNoModel holds name → Holds holds name bytes → length bytes ≤ longest_of bytes → IsMachineFile bytes m → ⊥
   no_model_read None m bytes told held short file = told
   no_model_read (Some fs) m bytes told held short file =
       let same = same_bytes (file_at name fs) told.0 bytes told.1 held in
       ⊎_elim
-      (λ (long : longest_file < length told.0). omega (arith, long, short, ap (λ (b : List ℕ). length b) same))
+      (λ (long : longest_of told.0 < length told.0). omega (arith, long, short, ap (λ (b : List ℕ). length b) same, ap longest_of same))
       (λ (bad : (n : Machine) → ¬ IsMachineFile told.0 n). bad m (subst (λ (b : List ℕ). IsMachineFile b m) (sym same) file))
       told.2
 

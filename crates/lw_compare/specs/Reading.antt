@@ -4,7 +4,7 @@ use Rattle.lw_words.specs.Cause.{CountedFault}
 use Rattle.lw_json.specs.Formats.{IsMachineFile}
 use Rattle.lw_json.specs.MachineFault.{IsMachineFault}
 use Rattle.lw_json.specs.declared.files.Machine.{Machine}
-use Rattle.lw_outside.specs.Files.{Call, File, HoldsLong, file_at, longest_file, noted, read_call, FilesState, ReadsFile}
+use Rattle.lw_outside.specs.Files.{Call, File, HoldsLong, file_at, longest_of, noted, read_call, FilesState, ReadsFile}
 use Rattle.lw_system.specs.Reading.{ReadsBadFile, TellsBad, TellsFile}
 use Rattle.lw_report.specs.declared.role.Role.TheVariants.{Model, Second}
 use Rattle.lw_report.specs.declared.outcome.Outcome.{Outcome}

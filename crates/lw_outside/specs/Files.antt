@@ -1,6 +1,7 @@
 -- Files by name, the calls on them, and the bytes that the reads gave.
 use Rattle.std.specs.Prelude.{◌≡◌, ◌≢◌, ℕ, ◌<◌, ◌≤◌, List, [], ◌∷◌, ◌++◌, length, Bool, false, true, Option, Some, None, Result, Err, IfOk, OnOk, OnErr, option_map, if◌then◌else◌, ⊤}
 use Rattle.std.specs.Str.{bytes_eq}
+use Rattle.lw_json.specs.Journal.{is_journal}
 use Rattle.lw_words.specs.Cause.{CountedFault}
 use Rattle.lw_outside.specs.declared.files.CallKind.{CallKind}
 use Rattle.lw_outside.specs.declared.files.CallKind.TheVariants as kind
@@ -13,9 +14,10 @@ use Rattle.lw_outside.specs.declared.files.WriteStop.TheVariants as unwritten
 abbrev pub File : Type 0
 File = List ℕ × List ℕ
 
--- the greatest number of bytes of a file that is read
-abbrev pub longest_file : ℕ
-longest_file = 16777216
+-- the greatest number of bytes of a file that is read, if these are its bytes, or its first ones: a journal may be longer than
+-- all others
+unfoldable pub longest_of : List ℕ → ℕ
+longest_of bytes = if is_journal bytes then 4294967296 else 16777216
 
 -- the first of two that is there
 abbrev pub first_present : Option (List ℕ) → Option (List ℕ) → Option (List ℕ)
@@ -35,7 +37,7 @@ Holds (Some fs) name bytes = file_at name fs ≡ Some bytes
 -- a file that is too long to be read stands under the name, where it is observed what files hold
 abbrev pub HoldsLong : Option (List File) → List ℕ → Type 0
 HoldsLong None name = Unit {0}
-HoldsLong (Some fs) name = (bytes : List ℕ) × (file_at name fs ≡ Some bytes) × (longest_file < length bytes)
+HoldsLong (Some fs) name = (bytes : List ℕ) × (file_at name fs ≡ Some bytes) × (longest_of bytes < length bytes)
 
 -- what is observed of the other files stays
 abbrev pub StaysBeside : List ℕ → Option (List File) → Option (List File) → Type 0
@@ -69,11 +71,11 @@ pub record FilesState : Type 0 where
   pub reads : List File
   pub faults : ℕ
 
--- what a read of a file does, by its answer, of which `items` are the bytes
+-- what a read of a file does, by its answer, of which `items` are the bytes: no more than a file that begins so may have
 pub record FilesRead {X : Type 0} (items : X → List ℕ) (name : List ℕ) (before now : FilesState) (result : Result X FilesStop) : Type 0 where
   pub told : IfOk result (λ x. Holds before.holds name (items x))
   pub given : IfOk result (λ x. now.reads ≡ before.reads ++ (name, items x) ∷ [])
-  pub short : IfOk result (λ x. length (items x) ≤ longest_file)
+  pub short : IfOk result (λ x. length (items x) ≤ longest_of (items x))
   pub ok : OnOk result (now.calls ≡ noted (read_call name false) before.calls)
   pub long : result ≡ Err unread.TooLong → HoldsLong before.holds name
   pub long_call : result ≡ Err unread.TooLong → now.calls ≡ noted (read_call name false) before.calls
@@ -108,10 +110,11 @@ pub record FilesProbe (name : List ℕ) (before now : FilesState) (result : Resu
   pub counts : before.faults ≤ now.faults
   pub same : now.holds ≡ before.holds
 
--- one read gave these bytes of the named file, no more than a file may have; and they are there, where that is observed
+-- one read gave these bytes of the named file, no more than a file that begins so may have; and they are there, where that is
+-- observed
 pub record WasRead (holds : Option (List File)) (before after : List File) (name bytes : List ℕ) : Type 0 where
   pub given : after ≡ before ++ (name, bytes) ∷ []
-  pub short : length bytes ≤ longest_file
+  pub short : length bytes ≤ longest_of bytes
   pub held : Holds holds name bytes
 
 -- the bytes that were read are the file of this value

@@ -5,7 +5,7 @@ use Rattle.std.specs.List.{list_any}
 use Rattle.lw_json.specs.declared.files.Machine.{Machine}
 use Rattle.lw_outside.specs.Links.{LinkState, SpawnerState, Transcript}
 use Rattle.lw_outside.specs.Played.{ended_lines, played}
-use Rattle.lw_outside.specs.Files.{File, Call, FilesState, file_at, longest_file}
+use Rattle.lw_outside.specs.Files.{File, Call, FilesState, file_at, longest_of}
 use Rattle.lw_outside.specs.Streams.{SinkState, SourceState}
 use Rattle.lw_outside.specs.declared.links.StartFailure.TheVariants.{Unknown}
 use Rattle.lw_outside.specs.declared.files.FilesStop.{FilesStop}
@@ -43,7 +43,7 @@ pub data ReadEnd : Type 0 where
 
 abbrev pub found_end : Option (List ℕ) → ReadEnd
 found_end None = Fails
-found_end (Some bytes) = if nat_lt longest_file (length bytes) then IsLong else Gives bytes
+found_end (Some bytes) = if nat_lt (longest_of bytes) (length bytes) then IsLong else Gives bytes
 
 -- a read fails where that is planned or there is no such file
 abbrev pub read_end : MemoryFilesState → List ℕ → ReadEnd

@@ -1,16 +1,31 @@
 //! Files by name.
-ghost use Rattle.lw_outside.specs.Files.{FilesState, FilesProbe, FilesRead, FilesWrite};
+ghost use Rattle.std.specs.Prelude.{◌≡◌};
+ghost use Rattle.lw_outside.specs.Files.{FilesState, FilesProbe, FilesRead, FilesWrite, longest_of};
 
+use lw_json::is_journal;
 use std::alloc::{AllocError, AllocFailed};
 
-/// The greatest number of bytes of a file that is read.
-pub const LONGEST_FILE: usize = 16_777_216;
+/// The greatest number of bytes of a journal that is read.
+const LONGEST_JOURNAL: usize = 4_294_967_296;
+/// And of any other file.
+const LONGEST_FILE: usize = 16_777_216;
+
+/// The greatest number of bytes of a file that is read, if these are its bytes, or its first ones.
+pub fn longest_of(bytes: &[u8]) -> usize
+    ensures { result ≡ longest_of bytes.now }
+{
+    if is_journal(bytes) {
+        LONGEST_JOURNAL
+    } else {
+        LONGEST_FILE
+    }
+}
 
 /// Why a file was not read.
 #[derive(Clone, Copy, Debug, PartialEq, Eq)]
 pub enum FilesStop {
     Failed,
-    /// It has more than 16,777,216 bytes.
+    /// It has more than 16,777,216 bytes, or more than 4,294,967,296 where it begins as a journal does.
     TooLong,
     NoMemory,
 }

@@ -21,8 +21,8 @@ mod transcript;
 mod world;
 
 pub use answer_line::AnswerLine;
-pub use files::{CallKind, Files, FilesStop, LONGEST_FILE, WriteStop};
-pub use links::{Link, Spawner, StartFailure, StartStop, copy_words};
+pub use files::{CallKind, Files, FilesStop, WriteStop, longest_of};
+pub use links::{JournalStart, Link, Spawner, StartFailure, StartStop, copy_words};
 pub use logs::LogFile;
 pub use memory_files::{FileCall, MemoryFiles};
 pub use memory_link::MemoryLink;

@@ -20,6 +20,18 @@ pub trait Link {
     fn take(&mut self, buffer: &mut [u8]) -> Result<usize, Failed>
         requires { 0 < length buffer.old }
         ensures { LinkTake buffer.new (state self.old) (state self.new) result };
+
+    /// Whether the runs of this child are written to a journal.
+    fn has_journal(&self) -> bool {
+        false
+    }
+
+    /// Appends the line of a finished run to the journal; None counts a line that there was no memory for.
+    fn append_run(&mut self, line: Option<&[u8]>)
+        ensures { state self.new ≡ state self.old }
+    {
+        let _ = line;
+    }
 }
 
 /// Why no child was started.
@@ -41,6 +53,15 @@ pub enum StartFailure {
     /// What the system says, by the number of its error.
     System(u32),
     Unknown,
+}
+
+/// What a journal holds when it is opened.
+#[derive(Clone, Copy, Debug, PartialEq, Eq)]
+pub enum JournalStart {
+    /// No run: it is new, or holds nothing but heads.
+    Fresh,
+    /// Runs of earlier calls, with which this one goes on.
+    Resumes,
 }
 
 /// What starts children, and retires the links to them.
@@ -66,6 +87,26 @@ pub trait Spawner {
         requires once { ¬ Contains (map (λ r. r.number) (state self.old).retired)
             (Self.Link.state link).number }
         ensures { SpawnerRetire (Self.Link.state link) (state self.old) (state self.new) };
+
+    /// Opens a journal, to which the runs of all children are appended that are started from now on.
+    fn open_journal(&mut self, name: &str) -> JournalStart
+        ensures { state self.new ≡ state self.old }
+    {
+        let _ = name;
+        JournalStart::Fresh
+    }
+
+    /// Appends a line to the journal; None counts a line that there was no memory for.
+    fn append_line(&mut self, line: Option<&[u8]>)
+        ensures { state self.new ≡ state self.old }
+    {
+        let _ = line;
+    }
+
+    /// Whether the journal lacks lines: those of some runs couldn't be written whole.
+    fn lacks_lines(&self) -> bool {
+        false
+    }
 }
 
 /// The words of a command, once more.

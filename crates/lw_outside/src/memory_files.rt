@@ -1,14 +1,13 @@
 //! Files in memory.
 ghost use Rattle.std.specs.Prelude.{◌≡◌, ◌<◌, ◌≤◌, ◌∷◌, [], ◌++◌, length, map, true, false, Some, Err, IfOk, OnOk, OnErr, option_map, string_bytes, vec_capacity, vec_len};
 ghost use Rattle.lw_words.specs.Cause.{CountedFault};
-ghost use Rattle.lw_outside.specs.Files.{Holds, HoldsLong, StaysBeside, file_at, longest_file, noted, probe_call, read_call, write_call, FilesProbe, FilesRead, FilesWrite};
+ghost use Rattle.lw_outside.specs.Files.{Holds, HoldsLong, StaysBeside, file_at, longest_of, noted, probe_call, read_call, write_call, FilesProbe, FilesRead, FilesWrite};
 ghost use Rattle.lw_outside.specs.Memory.{ReadEndsAs, NotesCall, NotesProbe, files_with, is_planned, read_end, told_files};
 ghost use Rattle.lw_outside.specs.declared.files.CallKind.TheVariants as kind;
 ghost use Rattle.lw_outside.specs.declared.files.FilesStop.{FilesStop as ReadRefusal};
 ghost use Rattle.lw_outside.specs.declared.files.WriteStop.{WriteStop as WriteRefusal};
 
-use crate::files::LONGEST_FILE;
-use crate::{CallKind, Files, FilesStop, WriteStop};
+use crate::{CallKind, Files, FilesStop, WriteStop, longest_of};
 use http_server::Log;
 use lw_words::NoMemory;
 use std::alloc::{AllocError, Global};
@@ -194,7 +193,7 @@ impl MemoryFiles {
         let Some(bytes) = find(&self.files, name) else {
             return Err(FilesStop::Failed);
         };
-        if bytes.len() > LONGEST_FILE {
+        if bytes.len() > longest_of(bytes) {
             return Err(FilesStop::TooLong);
         }
         Ok(Vec::from_slice(self.alloc, bytes)?)

@@ -61,7 +61,7 @@ pub enum Outcome {
     Alphabets(Role),
     /// The letter at this place of the word of this number, both counted from 1, is no input.
     UnknownLetter { word: u64, place: u64 },
-    /// The file in this role has more than 16,777,216 bytes.
+    /// The file in this role has more than 16,777,216 bytes, or more than 4,294,967,296 where it begins as a journal does.
     FileTooLong(Role),
     /// Two recorded answers that no one machine agrees with.
     Nondeterministic(Clash),

@@ -5,7 +5,7 @@ use Rattle.lw_json.specs.Formats.{IsMachineFile}
 use Rattle.lw_json.specs.MachineFault.{IsMachineFault}
 use Rattle.lw_json.specs.declared.fault.JsonFault.{JsonFault}
 use Rattle.lw_json.specs.declared.files.Machine.{Machine}
-use Rattle.lw_outside.specs.Files.{Call, File, Holds, HoldsLong, file_at, longest_file, noted, read_call, ReadsFile}
+use Rattle.lw_outside.specs.Files.{Call, File, Holds, HoldsLong, file_at, longest_of, noted, read_call, ReadsFile}
 use Rattle.lw_system.specs.Reading.{ReadsBadFile}
 use Rattle.lw_serve.specs.Reading.{FilesTell, TellsFailed, TellsLong, TellsMachine, TellsNoMachine}
 
@@ -45,12 +45,12 @@ module _ (holds : Option (List File)) (before now : List File) (name : List ℕ)
   pub long_not_read : (m : Machine) → TellsLong holds name → ReadsFile IsMachineFile name holds before now m → ⊥
   long_not_read m told r =
       let e = told_is_read holds name told.0 r.bytes told.1 r.read.held in
-      omega (arith, told.2, r.read.short, ap (λ (l : List ℕ). length l) e)
+      omega (arith, told.2, r.read.short, ap (λ (l : List ℕ). length l) e, ap longest_of e)
 
   pub long_not_bad : (fault : JsonFault) → TellsLong holds name → ReadsBadFile IsMachineFile IsMachineFault name holds before now fault → ⊥
   long_not_bad fault told r =
       let e = told_is_read holds name told.0 r.bytes told.1 r.read.held in
-      omega (arith, told.2, r.read.short, ap (λ (l : List ℕ). length l) e)
+      omega (arith, told.2, r.read.short, ap (λ (l : List ℕ). length l) e, ap longest_of e)
 
   pub bad_not_read : (m : Machine) → TellsNoMachine holds name → ReadsFile IsMachineFile name holds before now m → ⊥
   bad_not_read m told r = told.2 m (subst (λ (b : List ℕ). IsMachineFile b m) (sym (told_is_read holds name told.0 r.bytes told.1 r.read.held)) r.file)
@@ -60,4 +60,4 @@ module _ (holds : Option (List File)) (before now : List File) (name : List ℕ)
 
 pub machine_not_long : (holds : Option (List File)) (name : List ℕ) → TellsMachine holds name → HoldsLong holds name → ⊥
 machine_not_long None name told long = absurd told.1
-machine_not_long (Some fs) name told long = told.2 (subst (λ (b : List ℕ). longest_file < length b) (sym (same_bytes (file_at name fs) told.0 long.0 told.1 long.1)) long.2)
+machine_not_long (Some fs) name told long = told.2 (subst (λ (b : List ℕ). longest_of b < length b) (sym (same_bytes (file_at name fs) told.0 long.0 told.1 long.1)) long.2)

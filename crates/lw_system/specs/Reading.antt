@@ -2,7 +2,7 @@
 -- first fault.
 use Rattle.std.specs.Prelude.{◌≡◌, ◌⊎◌, ℕ, ◌<◌, ◌≤◌, List, length, true, false, Option, Some, None, Result, Err, IfOk, OnOk}
 use Rattle.lw_words.specs.Cause.{CountedFault}
-use Rattle.lw_outside.specs.Files.{File, file_at, HoldsLong, longest_file, noted, read_call, FilesState, WasRead, ReadsFile}
+use Rattle.lw_outside.specs.Files.{File, file_at, HoldsLong, longest_of, noted, read_call, FilesState, WasRead, ReadsFile}
 use Rattle.lw_system.specs.declared.stops.ReadStop.{ReadStop}
 use Rattle.lw_system.specs.declared.stops.ReadStop.TheVariants as stop
 
@@ -44,9 +44,9 @@ pub record HasRead {V F : Type 0} (IsFile : List ℕ → V → Type 0) (HasFirst
 -- it is observed that the file of this value stands under the name, and it isn't too long
 abbrev pub TellsFile : {V : Type 0} → (List ℕ → V → Type 0) → Option (List File) → List ℕ → V → Type 0
 TellsFile IsFile None name v = ⊥
-TellsFile IsFile (Some fs) name v = (bytes : List ℕ) × (file_at name fs ≡ Some bytes) × (length bytes ≤ longest_file) × IsFile bytes v
+TellsFile IsFile (Some fs) name v = (bytes : List ℕ) × (file_at name fs ≡ Some bytes) × (length bytes ≤ longest_of bytes) × IsFile bytes v
 
 -- it is observed that a file that is too long, or of no value, stands under the name
 abbrev pub TellsBad : {V : Type 0} → (List ℕ → V → Type 0) → Option (List File) → List ℕ → Type 0
 TellsBad IsFile None name = ⊥
-TellsBad IsFile (Some fs) name = (bytes : List ℕ) × (file_at name fs ≡ Some bytes) × ((longest_file < length bytes) ⊎ ((v : _) → ¬ IsFile bytes v))
+TellsBad IsFile (Some fs) name = (bytes : List ℕ) × (file_at name fs ≡ Some bytes) × ((longest_of bytes < length bytes) ⊎ ((v : _) → ¬ IsFile bytes v))

@@ -10,7 +10,7 @@ use lw_outside::FilesStop;
 pub enum ReadStop<F> {
     /// It could not be read.
     Failed,
-    /// It has more than 16,777,216 bytes.
+    /// It has more than 16,777,216 bytes, or more than 4,294,967,296 where it begins as a journal does.
     TooLong,
     /// It is none of its kind, and this is its first fault.
     Bad(F),
