@@ -23,7 +23,7 @@ input_send S g s =
 
 pub link_send : (W S : RattleType) (g : write.Ghosts W.Denot) (h : read.Ghosts S.Denot) → IsSend W → IsSend S → IsSend (link.the_row W S g h)
 link_send W S g h w s =
-    declared_send (link.the_type W S g h) (search (crosses, sendable) depth 60 fits 20000, (search (crosses, sendable, stream_send W g w) depth 60 fits 20000, (search (crosses, sendable, input_send S h s) depth 60 fits 20000, (search (crosses, sendable) depth 60 fits 20000, (search (crosses, sendable) depth 60 fits 20000, tt)))))
+    declared_send (link.the_type W S g h) (search (crosses, sendable) depth 60 fits 20000, (search (crosses, sendable, stream_send W g w) depth 60 fits 20000, (search (crosses, sendable, input_send S h s) depth 60 fits 20000, (search (crosses, sendable) depth 60 fits 20000, (search (crosses, sendable) depth 60 fits 20000, (search (crosses, sendable) depth 60 fits 20000, tt))))))
 
 pub real_link_send : IsSend (link.the_row writer.the_row reader.the_row writes.ghosts reads.ghosts)
 real_link_send = link_send writer.the_row reader.the_row writes.ghosts reads.ghosts (search (crosses, sendable) depth 60 fits 20000) (search (crosses, sendable) depth 60 fits 20000)

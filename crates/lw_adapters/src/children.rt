@@ -4,12 +4,13 @@ ghost use Rattle.std.specs.List.{All};
 ghost use Rattle.lw_outside.specs.Links.{LinkState};
 ghost use Rattle.lw_adapters.specs.Recorded.{bytes_of, told_pipes};
 
+use crate::journal::{Journal, JournalFault};
 use crate::pipe_link::PipeLink;
 use crate::watch::{Sends, Watched};
 use http_server::Log;
-use lw_outside::{Spawner, StartFailure, StartStop, copy_words};
+use lw_outside::{JournalStart, Spawner, StartFailure, StartStop, copy_words};
 use std::alloc::{AllocError, Global};
-use std::fs::{self, Files};
+use std::fs::{self, File, Files};
 use std::io::{self, ErrorKind, PipeReader, PipeWriter};
 use std::os::fd::AsRawFd;
 use std::process::{Child, Command, Processes, Stdio, SystemProcess};
@@ -36,13 +37,14 @@ pub struct RealSpawner<R> {
     cause: StartFailure,
     children: Vec<Child>,
     sends: Option<Sends>,
+    journal: Journal,
     commands: Log<Vec<String>, ()>,
     retired: Log<RealLink, ()>,
     ghost earlier: { All (λ r. r.0.number < started) retired.items },
 }
 
 impl<R: AllocGlobal> RealSpawner<R> {
-    /// Nothing is started yet. What is sent to children is watched where there is something that does.
+    /// Nothing is started yet, and no journal is open. What is sent to children is watched where there is something that does.
     pub fn new(rt: R, errors: Errors, sends: Option<Sends>) -> RealSpawner<R>
         ensures runtime { result.rt ≡ rt }
         ensures started { result.started ≡ 0 }
@@ -59,6 +61,7 @@ impl<R: AllocGlobal> RealSpawner<R> {
             cause: StartFailure::Unknown,
             children,
             sends,
+            journal: Journal::Unused,
             commands: Log::new(),
             retired: Log::new(),
         }
@@ -83,6 +86,15 @@ impl<R: AllocGlobal> RealSpawner<R> {
         if let Some(child) = self.children.get_mut(number) {
             let _status = child.wait();
         }
+    }
+}
+
+impl<R: Files<File = File> + AllocGlobal> RealSpawner<R> {
+    /// Opens the journal of this name and mends its end, so that what stands against it is known before anything is done. What it
+    /// held is told when a call opens it.
+    pub fn prepare_journal(&mut self, name: &str) -> Result<(), JournalFault> {
+        self.journal = Journal::open(&self.rt, name)?;
+        Ok(())
     }
 }
 
@@ -137,6 +149,7 @@ fn start_child<R: Files + Processes<Started = SystemProcess> + AllocGlobal>(
     errors: Errors,
     number: u64,
     sends: &Option<Sends>,
+    journal: &Journal,
 ) -> io::Result<(Child, RealLink)>
     ensures counts { IfOk result (λ r. (r.1.number ≡ number) × (r.1.faults ≡ 0) ×
         (r.1.output.ends ≡ 0)) }
@@ -152,8 +165,9 @@ fn start_child<R: Files + Processes<Started = SystemProcess> + AllocGlobal>(
         command.stderr(Stdio::null());
     }
     let watched = watched(sends, number, &input)?;
+    let journal = journal.writer()?;
     let child = command.spawn(rt)?;
-    let link = PipeLink::watched(number, input, output, watched);
+    let link = PipeLink::watched(number, input, output, watched, journal);
     Ok((child, link))
 }
 
@@ -181,7 +195,8 @@ fn failure_of<R: Files>(rt: &R, words: &[String], error: &io::Error) -> StartFai
     }
 }
 
-impl<R: Files + Processes<Started = SystemProcess> + AllocGlobal> Spawner for RealSpawner<R> {
+impl<R: Files<File = File> + Processes<Started = SystemProcess> + AllocGlobal> Spawner
+    for RealSpawner<R> {
     type Link = RealLink;
 
     ghost use Rattle.std.specs.Prelude.{Some, map, string_bytes};
@@ -215,6 +230,7 @@ impl<R: Files + Processes<Started = SystemProcess> + AllocGlobal> Spawner for Re
             self.errors,
             self.started,
             &self.sends,
+            &self.journal,
         ) {
             Ok((child, link)) => {
                 let Ok(()) = self.children.push(child) else {
@@ -237,5 +253,21 @@ impl<R: Files + Processes<Started = SystemProcess> + AllocGlobal> Spawner for Re
     /// Closes both pipes, so that a child that waits at one of them goes on to its end. `wait_for_end` waits for that end.
     fn retire(&mut self, link: RealLink) {
         self.retired = self.retired.and(&link, &());
+    }
+
+    /// Of a journal that can't be opened all lines are missing.
+    fn open_journal(&mut self, name: &str) -> JournalStart {
+        if matches!(self.journal, Journal::Unused) {
+            self.journal = Journal::open(&self.rt, name).unwrap_or(Journal::Lost);
+        }
+        self.journal.start()
+    }
+
+    fn append_line(&mut self, line: Option<&[u8]>) {
+        self.journal.append(line);
+    }
+
+    fn lacks_lines(&self) -> bool {
+        self.journal.lacks_lines()
     }
 }

@@ -5,7 +5,7 @@ ghost use Rattle.lw_outside.specs.declared.files.CallKind.TheVariants as kind;
 
 use crate::writing::{probe_file, write_file};
 use http_server::Log;
-use lw_outside::{CallKind, Files, FilesStop, LONGEST_FILE, WriteStop};
+use lw_outside::{CallKind, Files, FilesStop, WriteStop, longest_of};
 use std::fs;
 use std::io::{self, ErrorKind, Read};
 
@@ -71,11 +71,18 @@ impl<R> RealFiles<R> {
     }
 }
 
-/// The bytes of a file, at most one more than a file may have.
+/// How many bytes of a file are read before it is known how long it may be.
+const FRONT: u64 = 64;
+
+/// The bytes of a file, at most one more than a file that begins so may have.
 fn read_file<R: fs::Files + AllocGlobal>(rt: &R, name: &str) -> io::Result<Vec<u8>> {
     let mut bytes = Vec::new(rt.alloc());
-    let file = fs::open(rt, name)?;
-    let _count = file.take(LONGEST_FILE as u64 + 1).read_to_end(&mut bytes)?;
+    let mut file = fs::open(rt, name)?;
+    let front = file.by_ref().take(FRONT).read_to_end(&mut bytes)?;
+    let left = longest_of(&bytes).saturating_sub(front);
+    let _rest = file
+        .take((left as u64).saturating_add(1))
+        .read_to_end(&mut bytes)?;
     Ok(bytes)
 }
 
@@ -98,7 +105,7 @@ impl<R: fs::Files + AllocGlobal> Files for RealFiles<R> {
         match read_file(&self.rt, name) {
             Ok(bytes) => {
                 self.calls = self.calls.and(&called, &Made::reading(false));
-                if bytes.len() > LONGEST_FILE {
+                if bytes.len() > longest_of(&bytes) {
                     return Err(FilesStop::TooLong);
                 }
                 self.reads = self.reads.and(&called, &bytes);

@@ -4,6 +4,7 @@
 
 mod children;
 mod files;
+mod journal;
 mod log;
 mod names;
 mod pace;
@@ -15,6 +16,7 @@ mod writing;
 
 pub use children::{Errors, RealLink, RealSpawner};
 pub use files::RealFiles;
+pub use journal::JournalFault;
 pub use log::RealLog;
 pub use names::{TwoNames, is_among, two_names};
 pub use pipe_link::PipeLink;

@@ -2,13 +2,16 @@
 ghost use Rattle.std.specs.Prelude.{◌≡◌, []};
 ghost use Rattle.lw_adapters.specs.Recorded.{bytes_of};
 
+use crate::journal::Writer;
 use crate::pace::Pace;
 use crate::streams::{Input, Stream};
 use crate::watch::Watched;
 use lw_outside::{Failed, Link, Source, put_all};
+use std::fs::File;
 use std::io::{Read, Write};
 
-/// A link over a writer and a reader, as the two pipes of a child program. Contracts see what went over it.
+/// A link over a writer and a reader, as the two pipes of a child program. Contracts see what went over it. Where there is a
+/// journal, it appends runs to it.
 #[derive(Drop)]
 pub struct PipeLink<W: Write, R: Read> {
     number: u64,
@@ -16,10 +19,11 @@ pub struct PipeLink<W: Write, R: Read> {
     output: Input<R>,
     pace: Pace,
     faults: u64,
+    journal: Option<Writer<File>>,
 }
 
 impl<W: Write, R: Read> PipeLink<W, R> {
-    /// The link of this number, over which nothing went so far. Its sends aren't watched.
+    /// The link of this number, over which nothing went so far. Its sends aren't watched, and it has no journal.
     pub fn new(number: u64, input: W, output: R) -> PipeLink<W, R>
         ensures wrapped { (result.input.stream ≡ input) × (result.output.stream ≡ output) }
         ensures starts { (result.input.start.value ≡ input) × (result.output.start.value ≡ output) }
@@ -29,15 +33,16 @@ impl<W: Write, R: Read> PipeLink<W, R> {
         ensures untouched { (bytes_of result.input.taken.items ≡ []) ×
             (bytes_of result.output.given.items ≡ []) }
     {
-        PipeLink::watched(number, input, output, None)
+        PipeLink::watched(number, input, output, None, None)
     }
 
-    /// The same of a link whose sends are watched where there are marks for them.
+    /// The same of a link whose sends are watched where there are marks for them, and that has this journal.
     pub(crate) fn watched(
         number: u64,
         input: W,
         output: R,
         watched: Option<Watched>,
+        journal: Option<Writer<File>>,
     ) -> PipeLink<W, R>
         ensures wrapped { (result.input.stream ≡ input) × (result.output.stream ≡ output) }
         ensures starts { (result.input.start.value ≡ input) × (result.output.start.value ≡ output) }
@@ -53,6 +58,7 @@ impl<W: Write, R: Read> PipeLink<W, R> {
             output: Input::new(output),
             pace: Pace::new(watched),
             faults: 0,
+            journal,
         }
     }
 }
@@ -93,6 +99,16 @@ impl<W: Write, R: Read> Link for PipeLink<W, R> {
                 self.faults = self.faults.saturating_add(1);
                 Err(Failed)
             }
+        }
+    }
+
+    fn has_journal(&self) -> bool {
+        self.journal.is_some()
+    }
+
+    fn append_run(&mut self, line: Option<&[u8]>) {
+        if let Some(journal) = &mut self.journal {
+            let _whole = journal.append(line);
         }
     }
 }

@@ -13,7 +13,7 @@ use std::snapshot::Snapshot;
 
 #[tactic(auto, using(crate::proofs::ByteLemmas::repeats))]
 /// Writes some of the bytes, and again where a signal came between.
-fn write_some<W: Write>(stream: &mut W, bytes: &[u8]) -> io::Result<usize>
+pub(crate) fn write_some<W: Write>(stream: &mut W, bytes: &[u8]) -> io::Result<usize>
     ensures bound { WritesAtMost result bytes.now }
     ensures bytes { WriteAppends (W.contents stream.old) (W.contents stream.new) result bytes.now }
 {
@@ -28,7 +28,7 @@ fn write_some<W: Write>(stream: &mut W, bytes: &[u8]) -> io::Result<usize>
 
 #[tactic(auto, using(crate::proofs::ByteLemmas::repeats))]
 /// Reads what has come, as much as fits, and again where a signal came between. Waits only where nothing has.
-fn read_some<S: Read>(stream: &mut S, buffer: &mut [u8]) -> io::Result<usize>
+pub(crate) fn read_some<S: Read>(stream: &mut S, buffer: &mut [u8]) -> io::Result<usize>
     ensures bound { ReadsAtMost result buffer.new }
     ensures bytes { ReadConsumes (S.remaining stream.old) (S.remaining stream.new) result
         buffer.new }

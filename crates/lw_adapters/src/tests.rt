@@ -1,6 +1,7 @@
 //! The adapters of streams and links, over readers in memory and over streams that are interrupted, short, at their end or
 //! broken, each at one of their calls.
 mod children;
+mod journal;
 mod shaky;
 
 use crate::{Input, PipeLink, Stream};
