@@ -27,7 +27,7 @@ use Rattle.lw_json.specs.declared.fault.JsonFault.{JsonFault}
 use Rattle.lw_json.specs.declared.files.Machine.{Machine}
 use Rattle.lw_json.specs.declared.setup.Setup.{Setup}
 use Rattle.lw_json.specs.declared.setup.Setup.TheVariants as setup
-use Rattle.lw_outside.specs.Files.{File, HoldsLong, file_at, longest_file, FilesState, ReadsFile}
+use Rattle.lw_outside.specs.Files.{File, HoldsLong, file_at, longest_of, FilesState, ReadsFile}
 use Rattle.lw_json.specs.FitNames.{FitNames}
 use Rattle.lw_system.specs.Reading.{ReadsBadFile, TellsBad, TellsFile}
 use Rattle.lw_report.specs.declared.outcome.Outcome.{Outcome}
@@ -88,7 +88,9 @@ module _ {V F : Type 0} (IsFile : List ℕ → V → Type 0) (HasFirst : List �
 
   told_not_long : (holds : Option (List File)) (v : V) → TellsFile IsFile holds name v → HoldsLong holds name → ⊥
   told_not_long None v told long = absurd told
-  told_not_long (Some fs) v told long = omega (arith, told.2, long.2, ap (λ (l : List ℕ). length l) (same_bytes (file_at name fs) told.0 long.0 told.1 long.1))
+  told_not_long (Some fs) v told long =
+      let same : told.0 ≡ long.0 = same_bytes (file_at name fs) told.0 long.0 told.1 long.1 in
+      omega (arith, told.2, long.2, ap (λ (l : List ℕ). length l) same, ap longest_of same)
 
   told_same : (holds : Option (List File)) (before after : List File) (v w : V) → TellsFile IsFile holds name v → ReadsFile IsFile name holds before after w → (bytes : List ℕ) × IsFile bytes v × IsFile bytes w
   told_same None before after v w told read = absurd told
@@ -99,7 +101,7 @@ module _ {V F : Type 0} (IsFile : List ℕ → V → Type 0) (HasFirst : List �
   bad_not_read (Some fs) before after w told read =
       let same : told.0 ≡ read.bytes = same_bytes (file_at name fs) told.0 read.bytes told.1 read.read.held in
       ⊎_elim
-      (λ (long : longest_file < length told.0). omega (arith, long, read.read.short, ap (λ (l : List ℕ). length l) same))
+      (λ (long : longest_of told.0 < length told.0). omega (arith, long, read.read.short, ap (λ (l : List ℕ). length l) same, ap longest_of same))
       (λ (none : (v : V) → ¬ IsFile told.0 v). none w (subst (λ (b : List ℕ). IsFile b w) (sym same) read.file))
       told.2
 

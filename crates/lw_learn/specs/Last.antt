@@ -1,6 +1,6 @@
 -- The machine of the last learner that was closed, which is written at an end without a model.
 use Rattle.std.specs.Prelude.{◌≡◌, ◌⊎◌, ℕ, ◌≤◌, List, ◌++◌, codes, drop, Option, Some, None, Result, Ok, Err}
-use Rattle.lw_mealy.specs.Machine.{MealyMachine}
+use Rattle.lw_mealy.specs.Machine.{IsWithinLimits, MealyMachine}
 use Rattle.lw_json.specs.MachineText.{written_text}
 use Rattle.lw_json.specs.declared.files.Machine.{Machine}
 use Rattle.lw_outside.specs.Files.{FilesState}
@@ -14,9 +14,10 @@ use Rattle.lw_learn.specs.declared.saving.Saved.{Saved}
 abbrev pub hypothesis_text : Machine → List ℕ
 hypothesis_text m = codes "{\"hypothesis\":true," ++ drop 1 (written_text m)
 
--- a machine of these letters and outputs was written under the name, or that failed, or memory ran out before it
+-- a complete machine of these letters and outputs was written under the name, or that failed, or memory ran out before it
 pub record WritesHypothesis (name : List ℕ) (inputs outputs : List (List ℕ)) (files_before files_now : FilesState) : Type 0 where
   pub machine : Machine
+  pub complete : IsWithinLimits machine.mealy
   pub inputs_are : machine.inputs ≡ inputs
   pub outputs_are : machine.outputs ≡ outputs
   pub was : Saved

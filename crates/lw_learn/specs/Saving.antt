@@ -1,4 +1,4 @@
--- The recorded answers, saved in the file that is named for them, before anything else is written.
+-- The recorded answers, saved in the file that is named for them, before a model is written.
 use Rattle.std.specs.Prelude.{◌≡◌, ℕ, ◌≤◌, List, [], ◌∷◌, true, false, Option, Some, None}
 use Rattle.lw_words.specs.Cause.{CountedFault}
 use Rattle.lw_words.specs.declared.kept.KeptAnswer.{KeptAnswer}

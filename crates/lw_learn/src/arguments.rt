@@ -1,6 +1,6 @@
 //! The values of the arguments of `learn` and of `accept`.
 ghost use Rattle.std.specs.Prelude.{◌≡◌, ◌≤◌, IfSome, option_map, string_bytes};
-ghost use Rattle.lw_learn.specs.Arguments.{AreFewDrawn};
+ghost use Rattle.lw_learn.specs.Arguments.{AreFewDrawn, with_earlier};
 
 use lw_draw::Drawn;
 use lw_rounds::Settings;
@@ -9,7 +9,7 @@ use std::marker::Model;
 
 /// The files that `learn` is given beside the system's, where they are: for the model and for the answers, which are to be written,
 /// of prior answers, for the answers that are kept at any end, for the machine that is left at an end without a model, of the words
-/// that are asked first, and for the log.
+/// that are asked first, for the log, and for the journal.
 #[derive(Drop)]
 pub struct LearnFiles {
     pub model: Option<String>,
@@ -19,6 +19,7 @@ pub struct LearnFiles {
     pub last: Option<String>,
     pub words: Option<String>,
     pub log: Option<String>,
+    pub journal: Option<String>,
 }
 
 /// The values of the arguments of `learn` and of `accept`: what is learned, the file of the system and its kind, the settings of
@@ -32,11 +33,13 @@ pub struct LearnArguments {
     drawn: Option<Drawn>,
     files: LearnFiles,
     verbose: bool,
+    /// Whether the journal holds runs, which are then the prior answers.
+    resumes: bool,
 }
 
 impl Model for LearnArguments {
     ghost use Rattle.std.specs.Prelude.{option_map, string_bytes};
-    ghost use Rattle.lw_learn.specs.Arguments.{AreWithinLimits, LearnValues};
+    ghost use Rattle.lw_learn.specs.Arguments.{AreWithinLimits, LearnValues, earlier_of};
 
     ghost Value = { LearnValues };
 
@@ -51,12 +54,14 @@ impl Model for LearnArguments {
       testing = a.settings.testing;
       model = option_map (λ s. string_bytes s) a.files.model;
       answers = option_map (λ s. string_bytes s) a.files.answers;
-      prior = option_map (λ s. string_bytes s) a.files.prior;
+      prior = earlier_of a.resumes (option_map (λ s. string_bytes s) a.files.journal)
+          (option_map (λ s. string_bytes s) a.files.prior);
       kept = option_map (λ s. string_bytes s) a.files.kept;
       last = option_map (λ s. string_bytes s) a.files.last;
       words = option_map (λ s. string_bytes s) a.files.words;
       drawn = a.drawn;
       log = option_map (λ s. string_bytes s) a.files.log;
+      journal = option_map (λ s. string_bytes s) a.files.journal;
       verbose = a.verbose;
     } };
 
@@ -71,12 +76,14 @@ impl Model for LearnArguments {
       testing = a.settings.testing;
       model = option_map (λ s. string_bytes s) a.files.model;
       answers = option_map (λ s. string_bytes s) a.files.answers;
-      prior = option_map (λ s. string_bytes s) a.files.prior;
+      prior = earlier_of a.resumes (option_map (λ s. string_bytes s) a.files.journal)
+          (option_map (λ s. string_bytes s) a.files.prior);
       kept = option_map (λ s. string_bytes s) a.files.kept;
       last = option_map (λ s. string_bytes s) a.files.last;
       words = option_map (λ s. string_bytes s) a.files.words;
       drawn = a.drawn;
       log = option_map (λ s. string_bytes s) a.files.log;
+      journal = option_map (λ s. string_bytes s) a.files.journal;
       verbose = a.verbose;
     }) };
 }
@@ -110,6 +117,7 @@ impl LearnArguments {
           words = option_map (λ s. string_bytes s) files.words;
           drawn = drawn;
           log = option_map (λ s. string_bytes s) files.log;
+          journal = option_map (λ s. string_bytes s) files.journal;
           verbose = verbose;
         } }
     {
@@ -121,7 +129,15 @@ impl LearnArguments {
             drawn,
             files,
             verbose,
+            resumes: false,
         }
+    }
+
+    /// The journal holds runs, with which the call begins in place of prior answers.
+    pub(crate) fn resume(&mut self)
+        ensures { self.new ≡ with_earlier self.old.journal self.old }
+    {
+        self.resumes = true;
     }
 
     /// What is learned of the system.
@@ -175,10 +191,15 @@ impl LearnArguments {
         text_of(&self.files.answers)
     }
 
+    /// The name of the file of prior answers: the journal, where the call goes on with one.
     pub fn prior(&self) -> Option<&str>
         ensures { option_map (λ s. s.now) result ≡ self.now.prior }
     {
-        text_of(&self.files.prior)
+        if self.resumes {
+            text_of(&self.files.journal)
+        } else {
+            text_of(&self.files.prior)
+        }
     }
 
     pub fn kept(&self) -> Option<&str>
@@ -221,6 +242,13 @@ impl LearnArguments {
         ensures { option_map (λ s. s.now) result ≡ self.now.log }
     {
         text_of(&self.files.log)
+    }
+
+    /// The name of the file of the journal.
+    pub fn journal(&self) -> Option<&str>
+        ensures { option_map (λ s. s.now) result ≡ self.now.journal }
+    {
+        text_of(&self.files.journal)
     }
 }
 

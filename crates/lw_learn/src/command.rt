@@ -15,7 +15,7 @@ use crate::ending::finish;
 use crate::last::leave_last;
 use crate::learning::learn_system;
 use crate::logging::{log_end, log_stop, log_unread, open_log, say_log, unread_text};
-use crate::notes::{note_end, note_file, note_prior};
+use crate::notes::{note_end, note_file, note_last, note_prior};
 use crate::probing::read_probed;
 use crate::refusing::end_unread;
 use crate::task::{Task, WordedTask};
@@ -87,10 +87,11 @@ fn learn_read<
     log_stop(alloc, spawner, system.inputs(), &found, log);
     note_end(alloc, &system, &found, log);
     let (files, out, err) = (&mut world.files, &mut world.out, &mut world.err);
-    leave_last(alloc, arguments, &system, &found, last, files);
+    let left = leave_last(alloc, arguments, &system, &found, last, files);
     let end = finish(alloc, arguments, &system, found, files, out, err);
     log_end(alloc, &system, &end, arguments.extra(), &mut world.log);
     note_file(alloc, arguments, &end.outcome, &mut world.log);
+    note_last(alloc, arguments, left, &mut world.log);
     end
 }
 
@@ -135,15 +136,17 @@ fn learn_logged<
 
 /// Learns a system: the machine that it is, or the acceptor behind it. First the files are read that say what it is: a setup or
 /// a table file, the table file that a setup names, the file of prior answers, and the file of words that are asked first,
-/// where one is named. Then the files that will be written are probed, and the first that can't be ends the call, with no
-/// child started and nothing written. Then the system is learned, over as many instances: of a table's machine, or children that a
-/// setup's command starts, and that are all ended again, whatever comes: first those words and drawn ones are asked, in
-/// one batch, then the rounds go on until a model is sure. Then the answers that are kept are saved, where a file is
-/// named for them, whatever came of the learning; the model file and the answers file are written, where they are
-/// named, the model's text to `out`, where no file is named for it, and a line about it to `err`. The text of every
-/// other outcome goes to `err`. A log, where one is named, gets a line for each step, what stopped it midway, and the
-/// outcome's text; that it could not be written is said once, last of all, on `err`. May wait for a child, and for a
-/// turn of its workers.
+/// where one is named. Then the files that will be written are probed, and the first that can't be ends the call, with no child
+/// started and nothing written. Then the system is learned, over as many instances: of a table's machine, or children that a
+/// setup's command starts, and that are all ended again, whatever comes: first those words and drawn ones are asked, in one
+/// batch, then the rounds go on until a model is sure. At an end without a model the machine of the last learner that was
+/// closed is written, where a file is named for it. Then the answers that are kept are saved, where a file is named for them,
+/// whatever came of the learning; the model file and the answers file are written, where they are named, the model's text to
+/// `out`, where no file is named for it, and a line about it to `err`. The text of every other outcome goes to `err`. A log,
+/// where one is named, gets a line for each step, what stopped it midway, and the outcome's text; that it could not be written
+/// is said once, last of all, on `err`. A journal, where one is named and the spawner has opened it, gets the names of the
+/// letters before anything is asked, and then each answer: a child's as it comes, those of a table when the learning has ended.
+/// May wait for a child, and for a turn of its workers.
 pub fn learn<
     R: Threads + Wait + Sync + Drop,
     F: Files,

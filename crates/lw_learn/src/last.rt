@@ -3,9 +3,9 @@ ghost use Rattle.std.specs.Prelude.{◌≡◌, ◌⊎◌, ◌<◌, ◌≤◌, le
 ghost use Rattle.lw_learn.specs.Last.{WritesHypothesis, LeavesLast, hypothesis_text, model_learned};
 ghost use Rattle.lw_system.specs.Systems.{letters_of};
 
-use crate::LearnArguments;
 use crate::naming::names_of;
 use crate::saving::write_text;
+use crate::{LearnArguments, Saved};
 use lw_json::{Machine, machine_text};
 use lw_mealy::Mealy;
 use lw_names::OutNames;
@@ -92,19 +92,22 @@ fn hypothesis_text(alloc: Global, machine: &Machine) -> Result<Vec<u8>, NoMemory
 }
 
 /// Writes a machine under a name, where there is memory for its text.
-fn leave<F: Files>(alloc: Global, name: &str, machine: &Machine, files: &mut F)
-    ensures left { (F.state files.new ≡ F.state files.old) ⊎ WritesHypothesis name.now machine.now.inputs
-        machine.now.outputs (F.state files.old) (F.state files.new) }
+fn leave<F: Files>(alloc: Global, name: &str, machine: &Machine, files: &mut F) -> Saved
+    ensures left { (F.state files.new ≡ F.state files.old) ⊎
+        WritesHypothesis name.now machine.now.inputs machine.now.outputs
+        (F.state files.old) (F.state files.new) }
     ensures reads { (F.state files.new).reads ≡ (F.state files.old).reads }
     ensures counts { (F.state files.old).faults ≤ (F.state files.new).faults }
 {
-    if let Ok(text) = hypothesis_text(alloc, machine) {
-        let _was = write_text(files, name, &text);
+    let _letters = machine.mealy.inputs();
+    match hypothesis_text(alloc, machine) {
+        Ok(text) => write_text(files, name, &text),
+        Err(NoMemory) => Saved::NoMemory,
     }
 }
 
 /// Writes the machine of the last learner that was closed, if there was one, where a file is named for it and a learning came to
-/// no model. That it can't be written changes nothing of the outcome.
+/// no model. That it can't be written changes nothing of the outcome; what became of it is answered for a note.
 pub(crate) fn leave_last<F: Files>(
     alloc: Global,
     arguments: &LearnArguments,
@@ -112,18 +115,19 @@ pub(crate) fn leave_last<F: Files>(
     found: &LearningOutcome,
     last: Option<Mealy>,
     files: &mut F,
-)
+) -> Saved
     requires few { length (letters_of system.now) ≤ 64 }
     ensures { LeavesLast arguments.now.last (model_learned found.now.learned)
         (letters_of system.now) found.now.names.names (F.state files.old) (F.state files.new) }
 {
     let (Some(name), Some(last)) = (arguments.last(), &last) else {
-        return;
+        return Saved::Stand;
     };
     if found.learned.is_ok() {
-        return;
+        return Saved::Stand;
     }
-    if let Some(machine) = named(alloc, system, &found.names, last) {
-        leave(alloc, name, &machine, files);
+    match named(alloc, system, &found.names, last) {
+        Some(machine) => leave(alloc, name, &machine, files),
+        None => Saved::NoMemory,
     }
 }

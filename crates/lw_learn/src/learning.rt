@@ -16,6 +16,7 @@ ghost use Rattle.lw_system.specs.Systems.{declared_of, letters_of};
 ghost use Rattle.lw_learn.specs.bodies.Ready.{GivesModel, IsReady};
 
 use crate::LearnArguments;
+use crate::journal::{head_journal, write_journal};
 use lw_children::learn_children;
 use lw_json::{Command, Machine};
 use lw_outside::Spawner;
@@ -86,6 +87,7 @@ fn learn_command<P: Spawner, R: Threads + Wait + Sync + Drop, W: Watcher>(
     ensures few { arguments.now.workers ≤ 16 }
 {
     let settings = arguments.settings();
+    head_journal(alloc, arguments, &command.inputs, spawner);
     learn_children(rt, alloc, spawner, command, start, settings, watcher)
 }
 
@@ -123,7 +125,12 @@ pub(crate) fn learn_system<P: Spawner, R: Threads + Wait + Sync + Drop, W: Watch
         result.learned start.cache.kept result.kept.answers }
 {
     match system {
-        System::Table(machine) => { learn_table(rt, alloc, arguments, machine, start, watcher) }
+        System::Table(machine) => {
+            let outcome = learn_table(rt, alloc, arguments, machine, start, watcher);
+            let LearningOutcome { kept, names, .. } = &outcome;
+            write_journal(alloc, arguments, &machine.inputs, names, kept, spawner);
+            outcome
+        }
         System::Children(command) => learn_command(
             rt, alloc, spawner, arguments, command, start, watcher,
         ),

@@ -5,6 +5,7 @@ mod arguments;
 mod asking;
 mod command;
 mod ending;
+mod journal;
 mod last;
 mod laws;
 mod learning;
@@ -24,5 +25,6 @@ mod writing;
 
 pub use arguments::{LearnArguments, LearnFiles};
 pub use command::learn;
+pub use journal::begin_journal;
 pub use laws::{bad_is_refused, told_is_learned};
 pub use saving::Saved;

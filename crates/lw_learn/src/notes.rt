@@ -1,9 +1,9 @@
 //! What a learning notes for a person who waits, beside the lines of its log. No contract speaks of notes.
 
-use crate::LearnArguments;
 use crate::ending::text_names;
 use crate::suffixes::apart_line;
 use crate::wanted::wanted_line;
+use crate::{LearnArguments, Saved};
 use lw_cache::{AskStop, Cache};
 use lw_json::Answers;
 use lw_log::{Log, put_escaped};
@@ -240,7 +240,10 @@ fn file_in(arguments: &LearnArguments, role: Role) -> Option<&str> {
 }
 
 fn file_line(alloc: Global, name: &str) -> Result<String, NoMemory> {
-    Ok(format!(in alloc; "file: {name}\n")?)
+    let mut line = String::from_str(alloc, "file: ")?;
+    put_escaped(alloc, &mut line, name.as_bytes())?;
+    line.push_str("\n")?;
+    Ok(line)
 }
 
 /// Notes the name of the file that could not be read or written, where that was the outcome.
@@ -256,6 +259,21 @@ pub(crate) fn note_file<L: LogFile, N: Sink>(
     if let Outcome::FileFault(role) = outcome
         && let Some(name) = file_in(arguments, *role)
     {
+        log.note(file_line(alloc, name));
+    }
+}
+
+/// Notes the name of the file of the last machine, where it could not be written.
+pub(crate) fn note_last<L: LogFile, N: Sink>(
+    alloc: Global,
+    arguments: &LearnArguments,
+    left: Saved,
+    log: &mut Log<L, N>,
+) {
+    if !log.is_verbose() || left != Saved::Failed {
+        return;
+    }
+    if let Some(name) = arguments.last() {
         log.note(file_line(alloc, name));
     }
 }

@@ -71,7 +71,7 @@ fn line_wanted<'a>(
 
 /// The first names of a list, and whether there are more.
 fn names_text(alloc: Global, names: &Names) -> Result<String, NoMemory> {
-    let mut text = String::from_str(alloc, "an output of the setup:")?;
+    let mut text = String::from_str(alloc, "a declared output:")?;
     for n in 0..names.len().min(MOST_TOLD) {
         text.push_str(" ")?;
         text.push_str(names.name(n))?;

@@ -3,11 +3,12 @@
 #![tactic(auto)]
 
 use lw_adapters::{
-    Errors, Input, RealFiles, RealLog, RealSpawner, Sends, Stream, is_among, two_names,
+    Errors, Input, JournalFault, RealFiles, RealLog, RealSpawner, Sends, Stream, is_among,
+    two_names,
 };
 use lw_learn::LearnArguments;
 use lw_log::Log;
-use lw_outside::{LogFile, Sink, World, put_all};
+use lw_outside::{LogFile, Sink, Spawner, World, put_all};
 use lw_top::{accept_arguments, learn_arguments, run, without_arguments};
 use lw_words::NoMemory;
 use std::alloc::Global;
@@ -83,8 +84,10 @@ fn refuse_shared<E: Sink>(
 fn refuse_names<E: Sink>(rt: &HostRuntime, arguments: &LearnArguments, err: &mut E) -> Option<u8> {
     let (model, answers, kept) = (arguments.model(), arguments.answers(), arguments.kept());
     let (last, words, log) = (arguments.last(), arguments.words(), arguments.log());
+    let journal = arguments.journal();
     let others = [Some(arguments.system()), arguments.prior()];
-    let names = two_names(rt, &[model, answers, kept, last, log, words], &others)?;
+    let named = [model, answers, kept, last, log, journal, words];
+    let names = two_names(rt, &named, &others)?;
     let (name, other) = (names.name, names.other);
     tell(
         err,
@@ -93,19 +96,23 @@ fn refuse_names<E: Sink>(rt: &HostRuntime, arguments: &LearnArguments, err: &mut
     Some(2)
 }
 
-/// The status of a learning that names a file twice, which is reported: by two names, or by one as its log, its last machine, its
-/// kept answers or its words and for something else. None of any other call. Kept answers may have the name of the prior ones, and
-/// the answers that of the model.
-fn refuse<E: Sink>(rt: &HostRuntime, arguments: &[String], err: &mut E) -> Option<u8> {
-    let arguments = learning(rt.alloc(), arguments)?;
-    if let Some(status) = refuse_names(rt, &arguments, err) {
+/// The status of a learning that names a file twice, which is reported: by two names, or by one as its log, its journal, its last
+/// machine, its kept answers or its words and for something else. Kept answers may have the name of the prior ones, and the answers
+/// that of the model.
+fn refuse_files<E: Sink>(rt: &HostRuntime, arguments: &LearnArguments, err: &mut E) -> Option<u8> {
+    if let Some(status) = refuse_names(rt, arguments, err) {
         return Some(status);
     }
     let (model, answers, kept) = (arguments.model(), arguments.answers(), arguments.kept());
     let (prior, words, log) = (arguments.prior(), arguments.words(), arguments.log());
     let (system, last) = (Some(arguments.system()), arguments.last());
-    let others = [model, answers, system, prior, words, kept, last];
+    let journal = arguments.journal();
+    let others = [model, answers, system, prior, words, kept, last, journal];
     if let Some(status) = refuse_shared(rt, log, "the log", &others, err) {
+        return Some(status);
+    }
+    let others = [model, answers, system, prior, words, kept, last];
+    if let Some(status) = refuse_shared(rt, journal, "the journal", &others, err) {
         return Some(status);
     }
     let others = [model, answers, system, prior, words, kept];
@@ -118,6 +125,40 @@ fn refuse<E: Sink>(rt: &HostRuntime, arguments: &[String], err: &mut E) -> Optio
     }
     let others = [model, answers, system, prior];
     refuse_shared(rt, words, "the words", &others, err)
+}
+
+/// The status of a learning whose journal can't be opened, or is none, which is reported.
+fn refuse_journal<E: Sink>(
+    spawner: &mut RealSpawner<HostRuntime>,
+    name: Option<&str>,
+    err: &mut E,
+) -> Option<u8> {
+    match spawner.prepare_journal(name?) {
+        Ok(()) => None,
+        Err(JournalFault::Foreign) => {
+            tell(err, &["bad file journal: no journal\n"]);
+            Some(3)
+        }
+        Err(JournalFault::Failed) => {
+            tell(err, &["file fault: journal\n"]);
+            Some(8)
+        }
+    }
+}
+
+/// The status of a learning that can't begin by the files that it names, which is reported; else its journal is opened. None of any
+/// other call.
+fn refuse<E: Sink>(
+    rt: &HostRuntime,
+    arguments: &[String],
+    spawner: &mut RealSpawner<HostRuntime>,
+    err: &mut E,
+) -> Option<u8> {
+    let arguments = learning(rt.alloc(), arguments)?;
+    if let Some(status) = refuse_files(rt, &arguments, err) {
+        return Some(status);
+    }
+    refuse_journal(spawner, arguments.journal(), err)
 }
 
 /// What is sent to children, with a thread that looks at it as long as the program runs; nothing where there can be no such thread.
@@ -177,12 +218,15 @@ fn main(rt: HostRuntime) -> ExitCode {
         log: Log::new(alloc, RealLog::new(rt), Stream::new(rt.stderr())),
     };
     let status = match arguments(&rt) {
-        Ok(arguments) => match refuse(&rt, &arguments, &mut world.err) {
+        Ok(arguments) => match refuse(&rt, &arguments, &mut world.spawner, &mut world.err) {
             Some(status) => status,
             None => run(rt, alloc, &arguments, &mut world).status,
         },
         Err(_) => without_arguments(alloc, &mut world.err).status,
     };
     wait_for_ends(&rt, &mut world.spawner, &mut world.log);
+    if world.spawner.lacks_lines() {
+        tell(&mut world.err, &["journal fault\n"]);
+    }
     ExitCode::from(status)
 }

@@ -69,7 +69,7 @@ use Rattle.lw_check.specs.Ending as check
 use Rattle.lw_check.specs.Reading as checked
 use Rattle.lw_compare.specs.CompareRun as compare
 use Rattle.lw_compare.specs.Reading as compared
-use Rattle.lw_learn.specs.Arguments.{LearnValues}
+use Rattle.lw_learn.specs.Arguments.{IsEarlier, LearnValues, with_earlier}
 use Rattle.lw_learn.specs.Asking.{IsWordless, IsWordlessTask}
 use Rattle.lw_learn.specs.Ending.{Carries, EndsRead, EndsUnread}
 use Rattle.lw_learn.specs.Probes.{FailsProbe, IsUnwritable, WantsProbe, written_files}
@@ -920,7 +920,10 @@ saved_counts (Some name) inputs outputs [] f g is = let e = is.1 in cc
 saved_counts (Some name) inputs outputs (k ∷ ks) f g is = is.1
 
 -- `learn`
-module _ (a : LearnValues) (before now : WorldState) (end : End) (ran : IsLearnRun a before.files now.files before.spawner now.spawner before.out now.out before.err now.err now.log end) where
+module _ (v : LearnValues) (earlier : Option (List ℕ)) (begins : IsEarlier v earlier) (before now : WorldState) (end : End) (ran : IsLearnRun (with_earlier earlier v) before.files now.files before.spawner now.spawner before.out now.out before.err now.err now.log end) where
+  abbrev a : LearnValues
+  a = with_earlier earlier v
+
   abbrev Unlearned : Type 0
   Unlearned = EndsUnread a before.files now.files before.spawner now.spawner before.out now.out before.err ran.told end
 
@@ -1063,17 +1066,17 @@ module _ (a : LearnValues) (before now : WorldState) (end : End) (ran : IsLearnR
             (subst (λ (l : Result Found LearnStop). IfErr l (LearningStopsBy (length (letters_of r.system)) (count_of (declared_of r.system)) a.extra a.max_states (answers_of end.kept.answers))) same r.ended.learned.stops);
       })
 
-  stopped_so : (i : ℕ) (s : SulStop) (r : LearnedSystem) (stop : LearnStop) → r.ended.learned.learned ≡ Err stop → learn_outcome stop ≡ system_outcome i s → InstanceStopped (Some (Learn a)) before now i s
+  stopped_so : (i : ℕ) (s : SulStop) (r : LearnedSystem) (stop : LearnStop) → r.ended.learned.learned ≡ Err stop → learn_outcome stop ≡ system_outcome i s → InstanceStopped (Some (Learn v)) before now i s
   stopped_so i s r stop same e =
       let w = found_stop a r.system r.prior before.spawner now.spawner r.ended.learned.learned end.kept.answers r.ended.learned.naming.names i s r.ended.learned.found (same ∙ ap (λ (t : LearnStop). Err t) (system_stop stop i s e)) in
-      record { system = r.system; says = (r.prior, task_of a before now end ran.told r); within = w.1; links = w.0; retired = w.2; why = w.3 }
+      record { system = r.system; says = (earlier, begins, (r.prior, task_of a before now end ran.told r)); within = w.1; links = w.0; retired = w.2; why = w.3 }
 
-  learn_stops : (i : ℕ) (s : SulStop) → end.outcome ≡ system_outcome i s → InstanceStopped (Some (Learn a)) before now i s
-  learn_stops i sul.Failed is = stopped_by (InstanceStopped (Some (Learn a)) before now i sul.Failed) _ is (λ e. cc) (λ q y e. cc) (λ r e. cc) (λ u by. absurd by) (λ u w by. absurd by) (λ l by. absurd by) (stopped_so i sul.Failed)
-  learn_stops i (sul.BadLine line) is = stopped_by (InstanceStopped (Some (Learn a)) before now i (sul.BadLine line)) _ is (λ e. cc) (λ q y e. cc) (λ r e. cc) (λ u by. absurd by) (λ u w by. absurd by) (λ l by. absurd by) (stopped_so i (sul.BadLine line))
-  learn_stops i sul.Gone is = stopped_by (InstanceStopped (Some (Learn a)) before now i sul.Gone) _ is (λ e. cc) (λ q y e. cc) (λ r e. cc) (λ u by. absurd by) (λ u w by. absurd by) (λ l by. absurd by) (stopped_so i sul.Gone)
+  learn_stops : (i : ℕ) (s : SulStop) → end.outcome ≡ system_outcome i s → InstanceStopped (Some (Learn v)) before now i s
+  learn_stops i sul.Failed is = stopped_by (InstanceStopped (Some (Learn v)) before now i sul.Failed) _ is (λ e. cc) (λ q y e. cc) (λ r e. cc) (λ u by. absurd by) (λ u w by. absurd by) (λ l by. absurd by) (stopped_so i sul.Failed)
+  learn_stops i (sul.BadLine line) is = stopped_by (InstanceStopped (Some (Learn v)) before now i (sul.BadLine line)) _ is (λ e. cc) (λ q y e. cc) (λ r e. cc) (λ u by. absurd by) (λ u w by. absurd by) (λ l by. absurd by) (stopped_so i (sul.BadLine line))
+  learn_stops i sul.Gone is = stopped_by (InstanceStopped (Some (Learn v)) before now i sul.Gone) _ is (λ e. cc) (λ q y e. cc) (λ r e. cc) (λ u by. absurd by) (λ u w by. absurd by) (λ l by. absurd by) (stopped_so i sul.Gone)
 
-  learn_causes : CausesAreTold (Some (Learn a)) before now end
+  learn_causes : CausesAreTold (Some (Learn v)) before now end
   learn_causes = record {
     usage = λ is. absurd (learn_never _ is (λ e. cc) (λ q y e. cc) (λ r e. cc) (λ u k. k) (λ u w k. k) (λ l k. k) (λ k. k));
     faults = record {
@@ -1085,7 +1088,7 @@ module _ (a : LearnValues) (before now : WorldState) (end : End) (ran : IsLearnR
     findings = record {
       clash = learn_clash;
       crowd = learn_crowd;
-      suite = learn_suite;
+      suite = λ states number is. (earlier, begins, learn_suite states number is);
       stopped = learn_stops;
     };
   }
@@ -1115,7 +1118,7 @@ module _ (text : List ℕ) (before now : WorldState) (end : End) (ran : IsHelpRu
 module _ (words : List (List ℕ)) (before now : WorldState) (end : End) where
   pub causes : (call : Option CallValues) → Runs words call before now end → CausesAreTold call before now end
   causes None r = record { usage = λ is. refl; faults = refused_faults words before now end r; findings = refused_findings words before now end r }
-  causes (Some (Learn a)) r = learn_causes a before now end r.ran
+  causes (Some (Learn v)) r = learn_causes v r.ran.0 r.ran.1 before now end r.ran.2
   causes (Some (Check a)) r = checks_causes a before now end r.ran
   causes (Some (TrialCall v)) r = trials_causes v before now end r.ran
   causes (Some (Serve model)) r = serves_causes model before now end r.ran
@@ -1126,7 +1129,7 @@ module _ (words : List (List ℕ)) (before now : WorldState) (end : End) where
 
   pub accepted : (call : Option CallValues) → Runs words call before now end → AcceptedIsRight call before now end
   accepted None r = (λ n m is. refused_never words before now end r _ is (λ e. cc) (λ e. cc), λ q x is. refused_never words before now end r _ is (λ e. cc) (λ e. cc))
-  accepted (Some (Learn a)) r = acceptor_is_right a before now end r.ran
+  accepted (Some (Learn v)) r = (r.ran.0, r.ran.1, acceptor_is_right (with_earlier r.ran.0 v) before now end r.ran.2)
   accepted (Some (Check a)) r = (
     λ n m is. checks_never a before now end r.ran _ is (λ e. cc) (λ e. cc) (λ k. k) (λ p k. k),
     λ q x is. checks_never a before now end r.ran _ is (λ e. cc) (λ e. cc) (λ k. k) (λ p k. k),

@@ -35,7 +35,7 @@ use Rattle.lw_report.specs.declared.role.Role.{Role}
 use Rattle.lw_report.specs.declared.outcome.Outcome.TheVariants.{Learned, Trial, Yes, Served, No, Usage, BadFile, Alphabets, FileTooLong, Nondeterministic, NoMemory, SulFailed, Gone, BadLine, BadAsk, TooManyStates, SuiteTooLarge, FileFault, SourceFault, SinkFault, Compared, Asked, Helped, Rechecked, UnknownLetter, Unstarted, Accepted, BadAcceptor, NotAcceptor}
 use Rattle.lw_check.specs.CheckRun.{IsCheckRun}
 use Rattle.lw_check.specs.Decision.{IsFixed, Pair}
-use Rattle.lw_learn.specs.Arguments.{LearnValues}
+use Rattle.lw_learn.specs.Arguments.{LearnValues, with_earlier}
 use Rattle.lw_learn.specs.Asking.{IsWordless, IsWordlessTask, ReadsWords, SaysWords}
 use Rattle.lw_learn.specs.Ending.{Carries, EndsRead, EndsUnread, end_outputs}
 use Rattle.lw_learn.specs.Probes.{FailsProbe, IsUnwritable, WantsProbe, written_files}
@@ -325,7 +325,7 @@ rechecked a f g b z o p e d end run =
 module _ (words : List (List ℕ)) (before now : WorldState) (end : End) where
   pub learned : (call : Option CallValues) → Runs words call before now end → LearnedIsRight call end
   learned None r = ⊎_elim (λ (t : TellsReason words before.err now.err end). t.model) (λ (t : TellsNoMemory before.err now.err end). t.tells.model) r.ended
-  learned (Some (Learn a)) r = hands a before now end r.ran
+  learned (Some (Learn v)) r = hands (with_earlier r.ran.0 v) before now end r.ran.2
   learned (Some (Check a)) r = r.ran.no_model
   learned (Some (TrialCall a)) r = tried a before.out now.out before.err now.err end r.ran
   learned (Some (Serve model)) r = r.ran.no_model
@@ -364,7 +364,7 @@ module _ (words : List (List ℕ)) (before now : WorldState) (end : End) where
 
   pub kept : (call : Option CallValues) → Runs words call before now end → KeptAreRuns call before now end
   kept None r = tt
-  kept (Some (Learn a)) r = keeps a before now end r.ran
+  kept (Some (Learn v)) r = (r.ran.0, r.ran.1, keeps (with_earlier r.ran.0 v) before now end r.ran.2)
   kept (Some (Check a)) r = tt
   kept (Some (TrialCall a)) r = (r.ran.kept, if_some _ (λ h. h.inputs ≡ a.inputs) end.model (λ h has. has.certified.inputs) r.ran.model, r.ran.plainly)
   kept (Some (Serve model)) r = tt
@@ -375,7 +375,7 @@ module _ (words : List (List ℕ)) (before now : WorldState) (end : End) where
 
   pub reached : (call : Option CallValues) → Runs words call before now end → ModelIsReached call before now end
   reached None r = tt
-  reached (Some (Learn a)) r = reaches a before now end r.ran
+  reached (Some (Learn v)) r = (r.ran.0, r.ran.1, reaches (with_earlier r.ran.0 v) before now end r.ran.2)
   reached (Some (Check a)) r = tt
   reached (Some (TrialCall a)) r = r.ran.reached
   reached (Some (Serve model)) r = tt

@@ -12,7 +12,7 @@ use Rattle.lw_report.specs.Writing.{TakesAll, TakesSome, said_text}
 use Rattle.lw_report.specs.declared.«end».End.{End}
 use Rattle.lw_report.specs.declared.outcome.Outcome.{Outcome}
 use Rattle.lw_report.specs.declared.outcome.Outcome.TheVariants.{NoMemory, Unstarted, Usage}
-use Rattle.lw_learn.specs.Arguments.{LearnValues}
+use Rattle.lw_learn.specs.Arguments.{LearnValues, with_earlier}
 use Rattle.lw_learn.specs.LearnRun.{IsLearnRun}
 use Rattle.lw_learn.specs.Unread.{IsUnreadBy}
 use Rattle.lw_system.proofs.ReadsLemmas.{made_none, some_made}
@@ -128,7 +128,7 @@ names_learn (w ∷ ws) a is unnamed =
 module _ (f : FilesState) (b : SpawnerState) (i : SourceState) (o e d : SinkState) (l s : LogState) (end : End) (words : List (List ℕ)) where
   pub wanted : (call : Option CallValues) → TellsOutcome e d end → end.outcome ≡ NoMemory → ((c : CallValues) → call ≡ Some c → IsOther c → s ≡ l) → Runs words call (states f b i o e l) (states f b i o d s) end
   wanted None ended out same = record { outcome = inr out; files = refl; spawner = refl; input = refl; out = refl; ended = inr (record { outcome = out; tells = ended }) }
-  wanted (Some (Learn a)) ended out same = record { ran = wanted_run a f b o e d s end out ended; input = refl }
+  wanted (Some (Learn v)) ended out same = record { ran = (v.prior, inl refl, wanted_run (with_earlier v.prior v) f b o e d s end out ended); input = refl }
   wanted (Some (Check a)) ended out same = record { ran = wanted_check a.goal a.suite a.model a.answers a.extra f o e d end out ended; spawner = refl; input = refl; log = same (Check a) refl tt }
   wanted (Some (Trial a)) ended out same = record { ran = wanted_trial a f o e d end out ended; files = refl; spawner = refl; input = refl; log = same (Trial a) refl tt }
   wanted (Some (Serve m)) ended out same = record { ran = wanted_serve m f i o e d end out ended; spawner = refl; log = same (Serve m) refl tt }

@@ -6,11 +6,11 @@ use Rattle.lw_chunks.specs.declared.method.Method.TheVariants.{W}
 use Rattle.lw_learn.specs.Arguments.{LearnValues}
 use Rattle.lw_system.specs.declared.goal.Goal.TheVariants.{Acceptor}
 use Rattle.lw_top.specs.CommandLine.{app_by, values_taken}
-use Rattle.lw_top.specs.Syntaxes.{SyntaxValues, Text, entry, extra_entry, kept_entry, last_entry, learner_entry, length_entry, log_entry, random_entry, seed_entry, setup_entry, states_entry, verbose_entry, walks_entry, words_entry, workers_entry}
+use Rattle.lw_top.specs.Syntaxes.{SyntaxValues, Text, entry, extra_entry, journal_entry, kept_entry, last_entry, learner_entry, length_entry, log_entry, random_entry, seed_entry, setup_entry, states_entry, verbose_entry, walks_entry, words_entry, workers_entry}
 use Rattle.lw_top.specs.LearnCommand.{LearnFileNames, drawn_in, learn_values_from, settings_by, source_in, verbose_in}
 
 -- accept (SETUP | --table FILE) [--workers N] [--extra K] [--learner table|ttt] [--max-states N] [--model FILE] [--kept FILE] [--words FILE]
--- [[--random R] [--walks N] --length L --seed S] [--log FILE] [--last FILE] [--verbose]
+-- [[--random R] [--walks N] --length L --seed S] [--log FILE] [--last FILE] [--journal FILE] [--verbose]
 abbrev pub accept_syntax : SyntaxValues
 accept_syntax = record {
   command = codes "accept";
@@ -31,6 +31,7 @@ accept_syntax = record {
       ∷ seed_entry
       ∷ log_entry
       ∷ last_entry
+      ∷ journal_entry
       ∷ verbose_entry
       ∷ [];
   texts = codes "SETUP" ∷ [];
@@ -55,6 +56,7 @@ accept_files_in rows = record {
   last = first_of (codes "last") rows;
   words = first_of (codes "words") rows;
   log = first_of (codes "log") rows;
+  journal = first_of (codes "journal") rows;
 }
 
 abbrev pub accept_found : List Row → Option LearnValues

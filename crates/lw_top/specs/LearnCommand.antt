@@ -13,11 +13,12 @@ use Rattle.lw_system.specs.declared.goal.Goal.TheVariants.{Machine}
 use Rattle.lw_system.specs.declared.source.Source.{Source}
 use Rattle.lw_system.specs.declared.source.Source.TheVariants.{Setup, Table}
 use Rattle.lw_top.specs.CommandLine.{app_by, flag_given, kind_named, method_named, number_given, values_taken}
-use Rattle.lw_top.specs.Syntaxes.{SyntaxValues, Text, entry, extra_entry, kept_entry, last_entry, learner_entry, length_entry, log_entry, model_entry, random_entry, seed_entry, setup_entry, states_entry, suite_entry, table_entry, verbose_entry, walks_entry, words_entry, workers_entry}
+use Rattle.lw_top.specs.Syntaxes.{SyntaxValues, Text, entry, extra_entry, journal_entry, kept_entry, last_entry, learner_entry, length_entry, log_entry, model_entry, random_entry, seed_entry, setup_entry, states_entry, suite_entry, table_entry, verbose_entry, walks_entry, words_entry, workers_entry}
 use Rattle.lw_top.specs.declared.ranges.TheConstants.{EXTRA, LENGTH, RANDOM, SEED, STATES, WORKERS}
 
 -- learn (SETUP | --table FILE) [--workers N] [--extra K] [--learner table|ttt] [--max-states N] [--model FILE] [--answers FILE] [--prior FILE]
--- [--kept FILE] [--words FILE] [[--random R] [--walks N] --length L --seed S] [--log FILE] [--suite w|wp|h] [--last FILE] [--verbose]
+-- [--kept FILE] [--words FILE] [[--random R] [--walks N] --length L --seed S] [--log FILE] [--suite w|wp|h] [--last FILE]
+-- [--journal FILE] [--verbose]
 abbrev pub learn_syntax : SyntaxValues
 learn_syntax = record {
   command = codes "learn";
@@ -41,6 +42,7 @@ learn_syntax = record {
       ∷ log_entry
       ∷ suite_entry
       ∷ last_entry
+      ∷ journal_entry
       ∷ verbose_entry
       ∷ [];
   texts = codes "SETUP" ∷ [];
@@ -126,6 +128,7 @@ pub record LearnFileNames : Type 0 where
   pub last : Option (List ℕ)
   pub words : Option (List ℕ)
   pub log : Option (List ℕ)
+  pub journal : Option (List ℕ)
 
 abbrev pub file_names : LearnFiles → LearnFileNames
 file_names f = record {
@@ -136,6 +139,7 @@ file_names f = record {
   last = option_map (λ s. string_bytes s) f.last;
   words = option_map (λ s. string_bytes s) f.words;
   log = option_map (λ s. string_bytes s) f.log;
+  journal = option_map (λ s. string_bytes s) f.journal;
 }
 
 abbrev pub files_in : List Row → LearnFileNames
@@ -147,6 +151,7 @@ files_in rows = record {
   last = first_of (codes "last") rows;
   words = first_of (codes "words") rows;
   log = first_of (codes "log") rows;
+  journal = first_of (codes "journal") rows;
 }
 
 -- the values of what is learned, where the system's file is named and all else is there
@@ -173,6 +178,7 @@ learn_values_from goal (Some system) (Some settings) (Some drawn) files verbose 
       words = files.words;
       drawn = drawn.words;
       log = files.log;
+      journal = files.journal;
       verbose = verbose;
     })
 

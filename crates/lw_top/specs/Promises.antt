@@ -41,7 +41,7 @@ use Rattle.lw_report.specs.declared.«end».End.{End}
 use Rattle.lw_report.specs.declared.outcome.Outcome.{Outcome}
 use Rattle.lw_report.specs.declared.outcome.Outcome.TheVariants.{Accepted, Alphabets, BadAcceptor, BadFile, FileFault, FileTooLong, Learned, NoMemory, Nondeterministic, NotAcceptor, SinkFault, SourceFault, SuiteTooLarge, TooManyStates, UnknownLetter, Unstarted, Usage, Yes}
 use Rattle.lw_report.specs.declared.role.Role.{Role}
-use Rattle.lw_learn.specs.Arguments.{LearnValues}
+use Rattle.lw_learn.specs.Arguments.{AsBegun, LearnValues}
 use Rattle.lw_learn.specs.Asking.{SaysWords}
 use Rattle.lw_learn.specs.Ending.{EndsPlainly, IsSoundSystem, IsUncountedSystem}
 use Rattle.lw_learn.specs.Outcomes.{IsBadLine, IsReachedOutcome}
@@ -185,7 +185,7 @@ pub record AsksNothing (a : LearnValues) (before now : WorldState) (end : End) :
 -- the recorded answers are the runs of the instances, behind those of a file of earlier answers, of `learn` and of
 -- `trial`; a trial's, too, are the plain learner's of the drawn machine, where a table was learned by the W-method
 abbrev pub KeptAreRuns : Option CallValues → WorldState → WorldState → End → Type 0
-KeptAreRuns (Some (Learn a)) before now end = KeepsLearned a before now end ⊎ AsksNothing a before now end
+KeptAreRuns (Some (Learn v)) before now end = AsBegun v (λ a. KeepsLearned a before now end ⊎ AsksNothing a before now end)
 KeptAreRuns (Some (Trial a)) before now end =
     KeepsRuns (drawn_machine a) a.workers [] end.kept.answers × IsOverLetters a.inputs end.model × IfSome end.model (λ h. IsTriedPlainly a h.rows end.refinements end.kept.answers)
 KeptAreRuns _ before now end = Unit {0}
@@ -214,7 +214,7 @@ pub record ReachesModel (a : LearnValues) (before now : WorldState) (end : End) 
 
 -- a model is reached, of `trial` where the suite of the drawn machine isn't too large
 abbrev pub ModelIsReached : Option CallValues → WorldState → WorldState → End → Type 0
-ModelIsReached (Some (Learn a)) before now end = ReachesModel a before now end ⊎ AsksNothing a before now end
+ModelIsReached (Some (Learn v)) before now end = AsBegun v (λ a. ReachesModel a before now end ⊎ AsksNothing a before now end)
 ModelIsReached (Some (Trial a)) before now end =
     suite_size a.states a.inputs 1 ≤ greatest_suite → ¬ CountedFault before.out.faults now.out.faults → ¬ CountedFault before.err.faults now.err.faults → IsReachedTrial a.states end.outcome
 ModelIsReached _ before now end = Unit {0}
@@ -259,7 +259,7 @@ TellsNeither outcome = ((states refinements : ℕ) → ¬ (outcome ≡ Accepted 
 
 -- an acceptor that is reported is right, and so is that there is none; no command but `accept` reports either
 abbrev pub AcceptedIsRight : Option CallValues → WorldState → WorldState → End → Type 0
-AcceptedIsRight (Some (Learn a)) before now end = AcceptorIsRight a before now end
+AcceptedIsRight (Some (Learn v)) before now end = AsBegun v (λ a. AcceptorIsRight a before now end)
 AcceptedIsRight _ before now end = TellsNeither end.outcome
 
 -- a fault that is reported was counted: of the files, of the input, of a stream, or of a start, whose cause is what the
@@ -272,7 +272,7 @@ pub record FaultsAreCounted (before now : WorldState) (outcome : Outcome) : Type
 
 -- the bytes that the call read say this system
 abbrev pub FilesSaySystem : Option CallValues → (before now : FilesState) → System → Type 0
-FilesSaySystem (Some (Learn a)) before now s = (prior : List KeptAnswer) × SaysTask a before now s prior
+FilesSaySystem (Some (Learn v)) before now s = AsBegun v (λ a. (prior : List KeptAnswer) × SaysTask a before now s prior)
 FilesSaySystem (Some (Ask a)) before now s = ReadsSystemFor a.goal a.source a.system before.holds before.reads now.reads s
 FilesSaySystem (Some (Recheck a)) before now s = (answers : Answers) × ReadsBoth a.setup a.answers before.holds before.reads now.reads s answers
 FilesSaySystem _ before now s = ⊥
@@ -330,7 +330,7 @@ pub record LargeForModel (a : CheckValues) (before now : FilesState) (states num
 
 -- a suite that is too large, by the call
 abbrev pub IsLargeFor : Option CallValues → (before now : FilesState) → List KeptAnswer → (states number : ℕ) → Type 0
-IsLargeFor (Some (Learn a)) before now kept states number = LargeForSystem a before now kept states number
+IsLargeFor (Some (Learn v)) before now kept states number = AsBegun v (λ a. LargeForSystem a before now kept states number)
 IsLargeFor (Some (Check a)) before now kept states number = LargeForModel a before now states number
 IsLargeFor (Some (Trial v)) before now kept states number = HasLargeSuite v.inputs 2 1 1024 (answers_of kept) states number
 IsLargeFor _ before now kept states number = ⊥

@@ -14,7 +14,7 @@ use Rattle.lw_ask.specs.Arguments.{AskValues}
 use Rattle.lw_ask.specs.AskRun.{IsAskRun}
 use Rattle.lw_check.specs.CheckRun.{IsCheckRun}
 use Rattle.lw_compare.specs.CompareRun.{IsCompareRun}
-use Rattle.lw_learn.specs.Arguments.{LearnValues}
+use Rattle.lw_learn.specs.Arguments.{AsBegun, LearnValues}
 use Rattle.lw_learn.specs.LearnRun.{IsLearnRun}
 use Rattle.lw_recheck.specs.Arguments.{RecheckValues}
 use Rattle.lw_recheck.specs.RecheckRun.{IsRecheckRun}
@@ -78,8 +78,8 @@ TellsCause now outcome = (cause : StartFailure) → outcome ≡ Unstarted cause 
 
 -- what each command did, and what it didn't touch
 pub record RunsLearn (arguments : LearnValues) (before now : WorldState) (end : End) : Type 0 where
-  pub ran : IsLearnRun arguments before.files now.files before.spawner now.spawner
-      before.out now.out before.err now.err now.log end
+  pub ran : AsBegun arguments (λ a. IsLearnRun a before.files now.files before.spawner now.spawner
+      before.out now.out before.err now.err now.log end)
   pub input : now.input ≡ before.input
 
 pub record RunsCheck (arguments : CheckValues) (before now : WorldState) (end : End) : Type 0 where

@@ -152,6 +152,9 @@ log_entry = entry (Text (codes "log")) (codes "FILE") (codes "where each step is
 abbrev pub suite_entry : EntryValues
 suite_entry = entry (OneOf (codes "suite") methods (codes "w")) (codes "METHOD") (codes "how suites are made: by the W-, Wp- or H-method")
 
+abbrev pub journal_entry : EntryValues
+journal_entry = entry (Text (codes "journal")) (codes "FILE") (codes "where each answer is written as it comes, behind those that the call begins with")
+
 abbrev pub last_entry : EntryValues
 last_entry = entry (Text (codes "last")) (codes "FILE") (codes "where the machine of the last closed learner is written at an end without a model")
 

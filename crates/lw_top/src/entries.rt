@@ -98,6 +98,12 @@ pub(crate) const LAST: Entry = Entry {
     about: "where the machine of the last closed learner is written at an end without a model",
 };
 
+pub(crate) const JOURNAL: Entry = Entry {
+    argument: Argument::Text("journal"),
+    value: "FILE",
+    about: "where each answer is written as it comes, behind those that the call begins with",
+};
+
 pub(crate) const VERBOSE: Entry = Entry {
     argument: Argument::Flag("verbose"),
     value: "",

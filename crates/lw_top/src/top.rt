@@ -22,7 +22,7 @@ use crate::untaken::told_reason;
 use lw_ask::ask;
 use lw_check::check;
 use lw_compare::compare;
-use lw_learn::learn;
+use lw_learn::{begin_journal, learn};
 use lw_log::Log;
 use lw_outside::{Files, LogFile, Sink, Source, Spawner, World, put_all};
 use lw_recheck::recheck;
@@ -160,7 +160,10 @@ fn run_call<
         log: _,
     } = world;
     match call {
-        Call::Learn(values) => learn(rt, alloc, &values, world),
+        Call::Learn(values) => {
+            let values = begin_journal(values, spawner);
+            learn(rt, alloc, &values, world)
+        }
         Call::Check(values) => check(alloc, &values, files, out, err),
         Call::Trial(values) => trial(rt, alloc, &values, out, err),
         Call::Serve(model) => serve(alloc, model.as_str(), files, input, out, err),

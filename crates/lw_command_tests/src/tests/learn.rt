@@ -213,6 +213,7 @@ fn bare(source: Source, system: String, settings: Settings) -> LearnArguments {
         last: None,
         words: None,
         log: None,
+        journal: None,
     };
     LearnArguments::new(Goal::Machine, source, system, settings, None, files, false)
 }

@@ -3,6 +3,7 @@
 mod asking;
 mod calls;
 mod free_names;
+mod journal;
 mod lines;
 mod noting;
 mod scripted;

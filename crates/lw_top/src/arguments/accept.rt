@@ -10,8 +10,8 @@ ghost use Rattle.lw_top.specs.declared.values.ArgumentStop.{ArgumentStop as Stop
 use crate::ArgumentStop;
 use crate::arguments::learn::values_for;
 use crate::entries::{
-    EXTRA_ENTRY, KEPT, LAST, LEARNER, LENGTH_ENTRY, LOG, MAX_STATES, RANDOM_ENTRY, SEED_ENTRY,
-    SETUP, VERBOSE, WALKS, WORDS, WORKERS_ENTRY,
+    EXTRA_ENTRY, JOURNAL, KEPT, LAST, LEARNER, LENGTH_ENTRY, LOG, MAX_STATES, RANDOM_ENTRY,
+    SEED_ENTRY, SETUP, VERBOSE, WALKS, WORDS, WORKERS_ENTRY,
 };
 use crate::matching::read_matches;
 use crate::options::{Argument, Entry, Syntax};
@@ -49,6 +49,7 @@ static ACCEPT: Syntax = Syntax {
         SEED_ENTRY,
         LOG,
         LAST,
+        JOURNAL,
         VERBOSE,
     ],
     texts: &["SETUP"],
@@ -79,6 +80,7 @@ fn files_at(alloc: Global, matches: &ArgMatches) -> Result<LearnFiles, AllocErro
         last: text_at(alloc, matches, "last")?,
         words: text_at(alloc, matches, "words")?,
         log: text_at(alloc, matches, "log")?,
+        journal: text_at(alloc, matches, "journal")?,
     })
 }
 

@@ -9,7 +9,7 @@ ghost use Rattle.lw_top.specs.declared.values.ArgumentStop.{ArgumentStop as Stop
 
 use crate::ArgumentStop;
 use crate::entries::{
-    EXTRA_ENTRY, KEPT, LAST, LEARNER, LENGTH_ENTRY, LOG, MAX_STATES, MODEL, RANDOM_ENTRY,
+    EXTRA_ENTRY, JOURNAL, KEPT, LAST, LEARNER, LENGTH_ENTRY, LOG, MAX_STATES, MODEL, RANDOM_ENTRY,
     SEED_ENTRY, SETUP, SUITE, TABLE, VERBOSE, WALKS, WORDS, WORKERS_ENTRY,
 };
 use crate::matching::read_matches;
@@ -54,6 +54,7 @@ static LEARN: Syntax = Syntax {
         LOG,
         SUITE,
         LAST,
+        JOURNAL,
         VERBOSE,
     ],
     texts: &["SETUP"],
@@ -181,6 +182,7 @@ fn files_at(alloc: Global, matches: &ArgMatches) -> Result<LearnFiles, AllocErro
         last: text_at(alloc, matches, "last")?,
         words: text_at(alloc, matches, "words")?,
         log: text_at(alloc, matches, "log")?,
+        journal: text_at(alloc, matches, "journal")?,
     })
 }
 

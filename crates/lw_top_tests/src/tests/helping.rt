@@ -14,7 +14,7 @@ help: lists the commands, or the arguments of one
 ";
 
 const LEARN: &str = "learn: learns a program, or the machine of a file
-usage: learn (SETUP | --table FILE) [--workers N] [--extra K] [--learner KIND] [--max-states N] [--model FILE] [--answers FILE] [--prior FILE] [--kept FILE] [--words FILE] [--random R] [--walks N] [--length L] [--seed S] [--log FILE] [--suite METHOD] [--last FILE] [--verbose]
+usage: learn (SETUP | --table FILE) [--workers N] [--extra K] [--learner KIND] [--max-states N] [--model FILE] [--answers FILE] [--prior FILE] [--kept FILE] [--words FILE] [--random R] [--walks N] [--length L] [--seed S] [--log FILE] [--suite METHOD] [--last FILE] [--journal FILE] [--verbose]
   (SETUP | --table FILE): a text; the setup file of the program
   --table FILE: a text, or left out; the file of a machine in place of the setup
   --workers N: 1 to 16, by default 1; how many instances are asked at once
@@ -33,11 +33,12 @@ usage: learn (SETUP | --table FILE) [--workers N] [--extra K] [--learner KIND] [
   --log FILE: a text, or left out; where each step is logged
   --suite METHOD: one of w, wp, h, by default w; how suites are made: by the W-, Wp- or H-method
   --last FILE: a text, or left out; where the machine of the last closed learner is written at an end without a model
+  --journal FILE: a text, or left out; where each answer is written as it comes, behind those that the call begins with
   --verbose: a flag; tells reasons and progress on standard error
 ";
 
 const ACCEPT: &str = "accept: learns which words a program accepts, or the acceptor of a file
-usage: accept (SETUP | --table FILE) [--workers N] [--extra K] [--learner KIND] [--max-states N] [--model FILE] [--kept FILE] [--words FILE] [--random R] [--walks N] [--length L] [--seed S] [--log FILE] [--last FILE] [--verbose]
+usage: accept (SETUP | --table FILE) [--workers N] [--extra K] [--learner KIND] [--max-states N] [--model FILE] [--kept FILE] [--words FILE] [--random R] [--walks N] [--length L] [--seed S] [--log FILE] [--last FILE] [--journal FILE] [--verbose]
   (SETUP | --table FILE): a text; the setup file of the program
   --table FILE: a text, or left out; the file of an acceptor in place of the setup
   --workers N: 1 to 16, by default 1; how many instances are asked at once
@@ -53,6 +54,7 @@ usage: accept (SETUP | --table FILE) [--workers N] [--extra K] [--learner KIND] 
   --seed S: 0 to 18446744073709551615, or left out; what the drawing begins with; with --length and --random or --walks
   --log FILE: a text, or left out; where each step is logged
   --last FILE: a text, or left out; where the machine of the last closed learner is written at an end without a model
+  --journal FILE: a text, or left out; where each answer is written as it comes, behind those that the call begins with
   --verbose: a flag; tells reasons and progress on standard error
 ";
 

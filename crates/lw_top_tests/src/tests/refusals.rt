@@ -12,8 +12,8 @@ pub const USAGE: &str =
        check MODEL ANSWERS [--extra K] [--suite w|wp]
        serve MODEL
        trial --states N --inputs A --seed S [--workers N] [--learner table|ttt]
-added: learn .. [--kept FILE] [--words FILE] [[--random R] [--walks N] --length L --seed S] [--log FILE] [--suite w|wp|h] [--last FILE] [--verbose]
-       accept .. [--kept FILE] [--words FILE] [[--random R] [--walks N] --length L --seed S] [--log FILE] [--last FILE] [--verbose]
+added: learn .. [--kept FILE] [--words FILE] [[--random R] [--walks N] --length L --seed S] [--log FILE] [--suite w|wp|h] [--last FILE] [--journal FILE] [--verbose]
+       accept .. [--kept FILE] [--words FILE] [[--random R] [--walks N] --length L --seed S] [--log FILE] [--last FILE] [--journal FILE] [--verbose]
        check (MODEL | --acceptor FILE) ANSWERS [--extra K] [--suite w|wp|h]
        ask (SETUP | --table FILE | --accept SETUP | --acceptor FILE) WORD...
        recheck SETUP ANSWERS

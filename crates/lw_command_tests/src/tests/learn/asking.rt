@@ -72,6 +72,7 @@ fn arguments(rt: &impl Abort, alloc: Global, row: &Row) -> LearnArguments
         last: None,
         words: named(rt, alloc, "w", row.drawn.is_none()),
         log: named(rt, alloc, "l", row.is_logged),
+        journal: None,
     };
     LearnArguments::new(
         Goal::Machine,
@@ -277,6 +278,7 @@ fn by_setup(rt: &impl Abort, alloc: Global) -> LearnArguments {
         last: None,
         words: None,
         log: named(rt, alloc, "l", true),
+        journal: None,
     };
     LearnArguments::new(
         Goal::Machine,

@@ -95,6 +95,7 @@ fn arguments(rt: &impl Abort, alloc: Global, row: &Row) -> LearnArguments
         last: None,
         words: None,
         log: None,
+        journal: None,
     };
     LearnArguments::new(
         Goal::Machine,

@@ -71,6 +71,7 @@ fn arguments(rt: &impl Abort, alloc: Global, row: &Row) -> LearnArguments
         last: None,
         words: named(rt, alloc, "w", row.words.is_some()),
         log: None,
+        journal: None,
     };
     LearnArguments::new(
         Goal::Machine,
@@ -171,14 +172,14 @@ static NAMES: [Row; 5] = [
     },
     Row {
         child: "ready\nout 0\nout 2\n",
-        notes: "instance 0: cut at place 2 of: t t\nreceived: out 2\nwanted: an output of the setup: 0 1\nanswers: 0 from earlier files, 0 asked, 0 letters\n",
+        notes: "instance 0: cut at place 2 of: t t\nreceived: out 2\nwanted: a declared output: 0 1\nanswers: 0 from earlier files, 0 asked, 0 letters\n",
         ..BAD
     },
     // of 21 names 20 are told
     Row {
         setup: "{\"command\":[\"c\"],\"inputs\":[\"t\"],\"outputs\":[\"0\",\"1\",\"2\",\"3\",\"4\",\"5\",\"6\",\"7\",\"8\",\"9\",\"10\",\"11\",\"12\",\"13\",\"14\",\"15\",\"16\",\"17\",\"18\",\"19\",\"20\"]}",
         child: "ready\nout x\n",
-        notes: "instance 0: cut at place 1 of: t\nreceived: out x\nwanted: an output of the setup: 0 1 2 3 4 5 6 7 8 9 10 11 12 13 14 15 16 17 18 19 ..\nanswers: 0 from earlier files, 0 asked, 0 letters\n",
+        notes: "instance 0: cut at place 1 of: t\nreceived: out x\nwanted: a declared output: 0 1 2 3 4 5 6 7 8 9 10 11 12 13 14 15 16 17 18 19 ..\nanswers: 0 from earlier files, 0 asked, 0 letters\n",
         ..BAD
     },
 ];

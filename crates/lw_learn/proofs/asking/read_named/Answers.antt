@@ -1,5 +1,5 @@
 use Rattle.std.proofs.Common.{◌≡◌, Err, ap, subst, sym, ◌∙◌, ◌++◌, ◌∷◌, [], ◌≤◌, length, List, ℕ}
-use Rattle.lw_outside.specs.Files.{Holds, longest_file}
+use Rattle.lw_outside.specs.Files.{Holds, longest_of}
 use Rattle.lw_report.specs.Stops.{read_outcome}
 use Rattle.lw_report.specs.declared.role.Role.TheVariants.{Words}
 use Rattle.lw_learn.proofs.WordLemmas.{named_read, named_unread, not_read_at}
@@ -30,5 +30,5 @@ returns g c =
     let read = c.in-Ok.ensures in
     let words = c.words_in-words.ensures in
     named_read c.args.name.now c.args.inputs.now f h c.deref.result.now c.words_in-words.result
-    (record { given = subst (λ (bytes : List ℕ). (F.state now).reads ≡ (F.state before).reads ++ (c.args.name.now, bytes) ∷ []) (sym c.deref.ensures.value) read.given; short = subst (λ (bytes : List ℕ). length bytes ≤ longest_file) (sym c.deref.ensures.value) read.short; held = subst (λ (bytes : List ℕ). Holds (F.state before).holds c.args.name.now bytes) (sym c.deref.ensures.value) read.told })
+    (record { given = subst (λ (bytes : List ℕ). (F.state now).reads ≡ (F.state before).reads ++ (c.args.name.now, bytes) ∷ []) (sym c.deref.ensures.value) read.given; short = subst (λ (bytes : List ℕ). length bytes ≤ longest_of bytes) (sym c.deref.ensures.value) read.short; held = subst (λ (bytes : List ℕ). Holds (F.state before).holds c.args.name.now bytes) (sym c.deref.ensures.value) read.told })
     read.ok read.quiet read.same read.counts words.ok words.words words.err

@@ -13,7 +13,7 @@ returns-clause-learned g c =
     let files = c.finish-end.new.files in
     let child = c.args.world.now.spawner in
     let children = c.learn_system-found.new.spawner in
-    let left = c.leave_last.new.files in
+    let left = c.leave_last-left.new.files in
     let f = F.state before in
     let l = F.state left in
     let h = F.state files in
@@ -25,7 +25,7 @@ returns-clause-learned g c =
     let d = E.state c.finish-end.new.err in
     let found = c.learn_system-found.result in
     let is = c.learn_system-found.ensures in
-    ends_leaving c.args.arguments.now c.args.worded.task.system c.args.worded.task.cache.kept found.names found.learned found.kept.answers f l h b z o p e d c.finish-end.result is.found is.model is.stops c.finish-end.ensures.told c.leave_last.ensures
+    ends_leaving c.args.arguments.now c.args.worded.task.system c.args.worded.task.cache.kept found.names found.learned found.kept.answers f l h b z o p e d c.finish-end.result is.found is.model is.stops c.finish-end.ensures.told c.leave_last-left.ensures
 
 pub returns-clause-answered : goal.returns-clause-answered
 returns-clause-answered g c some =

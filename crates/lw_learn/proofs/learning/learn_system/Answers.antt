@@ -12,19 +12,19 @@ use Rattle.lw_learn.proofs.learning.learn_system.Goals as goal
 
 pub returns-in-Table-clause-model : goal.returns-in-Table-clause-model
 returns-in-Table-clause-model g c =
-    subst (λ (s : System). IfOk c.learn_table.result.learned (GivesModel c.args.arguments.now.learner c.args.arguments.now.testing (length (letters_of s)) (length c.learn_table.result.names.names) c.args.arguments.now.extra c.args.arguments.now.max_states c.learn_table.result.kept.answers)) (sym c.in-Table.is) (table_gives c.args.arguments.now c.in-Table.machine c.args.start.cache.kept c.learn_table.result.learned c.learn_table.result.kept.answers c.learn_table.result.names.names c.learn_table.ensures.found c.learn_table.ensures.enough)
+    subst (λ (s : System). IfOk c.learn_table-outcome.result.learned (GivesModel c.args.arguments.now.learner c.args.arguments.now.testing (length (letters_of s)) (length c.learn_table-outcome.result.names.names) c.args.arguments.now.extra c.args.arguments.now.max_states c.learn_table-outcome.result.kept.answers)) (sym c.in-Table.is) (table_gives c.args.arguments.now c.in-Table.machine c.args.start.cache.kept c.learn_table-outcome.result.learned c.learn_table-outcome.result.kept.answers c.learn_table-outcome.result.names.names c.learn_table-outcome.ensures.found c.learn_table-outcome.ensures.enough)
 
 pub returns-in-Table-clause-sizes : goal.returns-in-Table-clause-sizes
 returns-in-Table-clause-sizes g c =
-    subst (λ (s : System). IfOk c.learn_table.result.learned (λ l. (l.model.inputs ≡ length (letters_of s)) × (l.model.outputs ≡ length c.learn_table.result.names.names))) (sym c.in-Table.is) (table_sizes c.args.arguments.now c.in-Table.machine c.args.start.cache.kept c.learn_table.result.learned c.learn_table.result.kept.answers c.learn_table.result.names.names c.learn_table.ensures.found)
+    subst (λ (s : System). IfOk c.learn_table-outcome.result.learned (λ l. (l.model.inputs ≡ length (letters_of s)) × (l.model.outputs ≡ length c.learn_table-outcome.result.names.names))) (sym c.in-Table.is) (table_sizes c.args.arguments.now c.in-Table.machine c.args.start.cache.kept c.learn_table-outcome.result.learned c.learn_table-outcome.result.kept.answers c.learn_table-outcome.result.names.names c.learn_table-outcome.ensures.found)
 
 pub returns-in-Table-clause-stops : goal.returns-in-Table-clause-stops
 returns-in-Table-clause-stops g c =
-    subst (λ (s : System). IfErr c.learn_table.result.learned (LearningStopsBy (length (letters_of s)) (count_of (declared_of s)) c.args.arguments.now.extra c.args.arguments.now.max_states (answers_of c.learn_table.result.kept.answers))) (sym c.in-Table.is) (table_stops c.args.arguments.now c.in-Table.machine c.args.start.cache.kept c.learn_table.result.learned c.learn_table.result.kept.answers c.learn_table.result.names.names c.learn_table.ensures.found)
+    subst (λ (s : System). IfErr c.learn_table-outcome.result.learned (LearningStopsBy (length (letters_of s)) (count_of (declared_of s)) c.args.arguments.now.extra c.args.arguments.now.max_states (answers_of c.learn_table-outcome.result.kept.answers))) (sym c.in-Table.is) (table_stops c.args.arguments.now c.in-Table.machine c.args.start.cache.kept c.learn_table-outcome.result.learned c.learn_table-outcome.result.kept.answers c.learn_table-outcome.result.names.names c.learn_table-outcome.ensures.found)
 
 pub returns-in-Table-clause-over : goal.returns-in-Table-clause-over
 returns-in-Table-clause-over g c =
-    subst (λ (s : System). AreKeptOver (length (letters_of s)) (length c.learn_table.result.names.names) c.learn_table.result.kept.answers) (sym c.in-Table.is) (table_over c.args.arguments.now c.in-Table.machine c.args.start.cache.kept c.learn_table.result.learned c.learn_table.result.kept.answers c.learn_table.result.names.names c.learn_table.ensures.found c.requires.ready.may.prior_is c.learn_table.ensures.few)
+    subst (λ (s : System). AreKeptOver (length (letters_of s)) (length c.learn_table-outcome.result.names.names) c.learn_table-outcome.result.kept.answers) (sym c.in-Table.is) (table_over c.args.arguments.now c.in-Table.machine c.args.start.cache.kept c.learn_table-outcome.result.learned c.learn_table-outcome.result.kept.answers c.learn_table-outcome.result.names.names c.learn_table-outcome.ensures.found c.requires.ready.may.prior_is c.learn_table-outcome.ensures.few)
 
 pub returns-in-Children-clause-model : goal.returns-in-Children-clause-model
 returns-in-Children-clause-model g c =
@@ -47,7 +47,7 @@ returns-in-Children-clause-over g c =
     subst (λ (s : System). AreKeptOver (length (letters_of s)) (length c.learn_command.result.names.names) c.learn_command.result.kept.answers) (sym c.in-Children.is) (command_over c.args.arguments.now.learner m.words m.inputs c.args.arguments.now.workers c.args.arguments.now.extra c.args.arguments.now.max_states c.args.start.cache.kept (g.P.Spawner.state c.args.spawner.now) (g.P.Spawner.state c.learn_command.new.spawner) c.learn_command.result.learned c.learn_command.result.kept.answers c.learn_command.result.names.names m.outputs c.learn_command.ensures.found c.requires.ready.may.prior_is c.learn_command.ensures.few)
 
 pub returns-in-Table-clause-named : goal.returns-in-Table-clause-named
-returns-in-Table-clause-named g c = subst (λ (s : System). IfSome (declared_of s) (λ own. c.learn_table.result.names.names ≡ own)) (sym c.in-Table.is) c.learn_table.ensures.found.named
+returns-in-Table-clause-named g c = subst (λ (s : System). IfSome (declared_of s) (λ own. c.learn_table-outcome.result.names.names ≡ own)) (sym c.in-Table.is) c.learn_table-outcome.ensures.found.named
 
 pub returns-in-Children-clause-named : goal.returns-in-Children-clause-named
 returns-in-Children-clause-named g c =
@@ -57,8 +57,8 @@ returns-in-Children-clause-named g c =
 pub returns-in-Table-clause-plainly : goal.returns-in-Table-clause-plainly
 returns-in-Table-clause-plainly g c =
     let a = c.args.arguments.now in
-    let r = c.learn_table.result in
-    subst (λ (s : System). RunsAsPlain a.learner a.testing (length (letters_of s)) a.extra a.max_states c.args.start.words r.learned c.args.start.cache.kept r.kept.answers) (sym c.in-Table.is) c.learn_table.ensures.plainly
+    let r = c.learn_table-outcome.result in
+    subst (λ (s : System). RunsAsPlain a.learner a.testing (length (letters_of s)) a.extra a.max_states c.args.start.words r.learned c.args.start.cache.kept r.kept.answers) (sym c.in-Table.is) c.learn_table-outcome.ensures.plainly
 
 pub returns-in-Children-clause-plainly : goal.returns-in-Children-clause-plainly
 returns-in-Children-clause-plainly g c =

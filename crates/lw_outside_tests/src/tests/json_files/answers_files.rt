@@ -39,7 +39,7 @@ static NO_ANSWERS: [(&str, JsonFault); 46] = [
         JsonFault::Shape(Field::Format),
     ),
     (
-        "{\"format\":3,\"inputs\":[\"a\",\"b\"],\"outputs\":[\"0\",\"1\"],\"answers\":[]}",
+        "{\"format\":4,\"inputs\":[\"a\",\"b\"],\"outputs\":[\"0\",\"1\"],\"answers\":[]}",
         JsonFault::Shape(Field::Format),
     ),
     (

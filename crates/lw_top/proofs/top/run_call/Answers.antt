@@ -1,14 +1,19 @@
-use Rattle.std.proofs.Common.{◌≡◌, rules, Err, List, ℕ, Option, Some, None, string_bytes, sym, ap, refl, subst}
+use Rattle.std.proofs.Common.{◌≡◌, ◌∙◌, rules, Err, List, ℕ, Option, Some, None, string_bytes, sym, ap, refl, subst}
 use Rattle.lw_report.specs.declared.outcome.Outcome.TheVariants.{Usage}
 use Rattle.lw_compare.specs.CompareRun.{IsCompareRun}
+use Rattle.lw_learn.specs.Arguments.{LearnValues, with_earlier}
+use Rattle.lw_learn.specs.LearnRun.{IsLearnRun}
+use Rattle.lw_outside.specs.Links.{SpawnerState}
 use Rattle.lw_serve.specs.ServeRun.{IsServeRun}
-use Rattle.lw_top.specs.Call.{CallValues, call_of, values_of}
+use Rattle.lw_top.specs.Call.{CallValues, Learn, call_of, values_of}
 use Rattle.lw_top.specs.CommandLine.{texts}
 use Rattle.lw_top.specs.HelpCommand.{topic_text}
-use Rattle.lw_top.specs.Run.{Runs}
+use Rattle.lw_top.specs.Promises.{CausesAreTold}
+use Rattle.lw_top.specs.Run.{Runs, RunsLearn}
 use Rattle.lw_top.specs.World.{WorldState, seen, states}
 use Rattle.lw_top.specs.declared.call.Call.{Call}
 use Rattle.lw_top.specs.declared.values.ArgumentStop.{ArgumentStop}
+use Rattle.lw_top.proofs.CauseLemmas.{causes}
 use Rattle.lw_top.proofs.HelpLemmas.{helps_never}
 use Rattle.lw_top.proofs.RunLemmas.{names_learn, names_other, refused}
 use Rattle.lw_top.proofs.top.run_call.Goals as goal
@@ -26,11 +31,18 @@ returns-in-Learn-clause-ran g c =
     let now : WorldState = seen F.state P.state I.state O.state E.state (λ l. l.state) c.learn.new.world in
     let is : call_of words ≡ Some (values_of c.in-Ok.call) = c.in-Ok.ensures.ok in
     let here = subst (λ (call : Call). call_of words ≡ Some (values_of call)) c.in-Learn.is is in
-    let taken : ¬ (c.learn.result.outcome ≡ Usage) = search rules in
+    let begun = c.begin_journal-values.ensures.begun in
+    let opened = c.begin_journal-values.result in
+    let run : IsLearnRun opened before.files now.files before.spawner now.spawner before.out now.out before.err now.err now.log c.learn.result =
+    subst (λ (s : SpawnerState). IsLearnRun opened before.files now.files s now.spawner before.out now.out before.err now.err now.log c.learn.result) c.begin_journal-values.ensures.same c.learn.ensures.run in
+    let of : IsLearnRun (with_earlier begun.0 c.in-Learn.values) before.files now.files before.spawner now.spawner before.out now.out before.err now.err now.log c.learn.result =
+    subst (λ (a : LearnValues). IsLearnRun a before.files now.files before.spawner now.spawner before.out now.out before.err now.err now.log c.learn.result) begun.2 run in
+    let runs : RunsLearn c.in-Learn.values before now c.learn.result = record { ran = (begun.0, begun.1, of); input = ap (λ i. I.state i) c.learn.ensures.input } in
+    let told : CausesAreTold (Some (Learn c.in-Learn.values)) before now c.learn.result = causes words before now c.learn.result (Some (Learn c.in-Learn.values)) runs in
     record {
       status = c.learn.ensures.status;
-      ran = subst (λ (call : Option CallValues). Runs words call before now c.learn.result) (sym here) (record { ran = c.learn.ensures.run; input = ap (λ i. I.state i) c.learn.ensures.input });
-      usage = λ usage. absurd (taken usage);
+      ran = subst (λ (call : Option CallValues). Runs words call before now c.learn.result) (sym here) runs;
+      usage = λ usage. here ∙ told.usage usage;
       counts = search rules;
     }
 
