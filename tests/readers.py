@@ -1,4 +1,4 @@
-"""What bytes say, done plainly after docs/FORMATS.md: the four kinds of file, files of words, and lines of both sides.
+"""What bytes say, done plainly after docs/FORMATS.md: the four kinds of file, journals, files of words, and lines of both sides.
 
 A reader answers the value of its bytes, or raises a `Fault`, whose text is what the program tells of the first fault. Words are
 tuples of letters, as in `machines.py`, but outputs are told by their names.
@@ -17,6 +17,7 @@ MOST = {"inputs": 64, "outputs": 4_096}
 MOST_STATES = 1_024
 MOST_COMMAND = 64
 GREATEST_INSTANCE = 16
+JOURNAL = b'{"format":3,'
 
 HALF = r"\\u[dD][89abAB][0-9a-fA-F]{2}"
 OTHER_HALF = r"\\u[dD][c-fC-F][0-9a-fA-F]{2}"
@@ -198,22 +199,48 @@ def word_of(text, names):
 
 
 def answers(data):
-    """The answers of an answers file, with their names."""
+    """The answers of an answers file, which may be a journal, with their names."""
+    if data.startswith(JOURNAL):
+        return journal(data)
     root = value(data)
     form, inputs, outputs = look_at(root, {"format": is_format, "inputs": is_texts, "outputs": is_texts})
     (said,) = look_at(root, {"answers": is_list_of(is_pair if form == 1 else is_four)})
+    return kept_of([[0, place, *it] for place, it in enumerate(said)] if form == 1 else said, inputs, outputs)
+
+
+def values_of_lines(data):
+    """The values of the lines of a journal that are JSON. The others are passed over: they are empty, or were cut."""
+    for line in data.split(b"\n"):
+        try:
+            yield value(line)
+        except Fault:
+            pass
+
+
+def journal(data):
+    """The answers of a journal: the inputs are those of its last head, the outputs the names in the order in which they come."""
+    heads, runs = [{}], []
+    for it in values_of_lines(data):
+        (heads if isinstance(it, dict) else runs).append(it)
+    (inputs,) = look_at(heads[-1], {"inputs": is_texts})
+    look_at({"answers": runs}, {"answers": is_list_of(is_four)})
+    outputs = [name for _, _, _, outs in runs if outs for name in outs.split(" ")]
+    return kept_of(runs, inputs, list(dict.fromkeys(outputs)))
+
+
+def kept_of(said, inputs, outputs):
+    """The answers that lists of four say, with their names."""
     look_at_names("inputs", inputs)
     look_at_names("outputs", outputs)
     letters, known = {name: x for x, name in enumerate(inputs)}, set(outputs)
-    words = [(word_of(it[-2], letters), word_of(it[-1], known)) for it in said]
+    words = [(word_of(word, letters), word_of(outs, known)) for _, _, word, outs in said]
     for place, pair in enumerate(words):
         if None in pair:
             raise Fault(f"bad word at answer {place}")
     for place, (word, outs) in enumerate(words):
         if len(word) != len(outs):
             raise Fault(f"lengths differ at answer {place}")
-    origins = [(0, place) if form == 1 else it[:2] for place, it in enumerate(said)]
-    kept = [Answer(*origins[i], tuple(letters[x] for x in word), tuple(outs)) for i, (word, outs) in enumerate(words)]
+    kept = [Answer(*it[:2], tuple(letters[x] for x in word), tuple(outs)) for it, (word, outs) in zip(said, words)]
     return Answers(inputs, outputs, kept)
 
 
